@@ -1,0 +1,28 @@
+-- `int64::and` meets its contract, by the three ways out. Assumes nothing.
+use mathlib.Core.Path.{_≡_, refl, sym, ap, _∙_}
+use mathlib.Core.Bool.{Bool, true, false, not}
+use mir.Facts.{toZ-ofZ}
+use mir.Syntax.{w64}
+use mir.Val.{ofZ}
+use Rattle.int64.proofs.Laws.{and-true, and-false, and-none}
+use borrow.Author.Needs.{needs}
+use Rattle.int64.proofs.and.Statement.{statement}
+use Rattle.int64.proofs.and.Tie as tie
+
+on-requires : tie.Need-on-requires
+on-requires c κs = search needs
+
+on-requires-2 : tie.Need-on-requires-2
+on-requires-2 c κs = search needs
+
+returns : tie.Need-returns
+returns c = and-true (c .before .before .before .before .fits .a) (c .before .before .before .before .fits .b) (c .before .before .before .on .ensures) (c .before .before .if1 .taken) (c .before .on2 .ensures) (c .if2 .taken)
+
+returns-2 : tie.Need-returns-2
+returns-2 c = and-false (c .before .before .before .before .fits .a) (c .before .before .before .before .fits .b) (c .before .before .before .on .ensures) (c .before .before .if1 .taken) (c .before .on2 .ensures) (c .if2 .left)
+
+returns-3 : tie.Need-returns-3
+returns-3 c = and-none (c .before .before .fits .a) (c .before .before .args .b) (c .before .on .ensures) (c .if1 .left)
+
+pub and-spec : {M : Type 1} → statement M
+and-spec = tie.close (tie.spec on-requires on-requires-2 returns returns-2 returns-3)

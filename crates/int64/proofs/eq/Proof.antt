@@ -1,0 +1,19 @@
+-- `int64::eq` meets its contract: numbers are the same just where their bits are. Assumes nothing.
+use mathlib.Core.Path.{_≡_, refl, sym, ap, _∙_}
+use mathlib.Core.Bool.{Bool, true, false, not}
+use mir.Facts.{toZ-ofZ}
+use mir.Syntax.{w64}
+use mir.Val.{ofZ}
+use Rattle.int64.proofs.Laws.{eqZ-yes, eqZ-no, same-bits}
+use Rattle.int64.specs.Num.{flag}
+use Rattle.int64.proofs.eq.Statement.{statement}
+use Rattle.int64.proofs.eq.Tie as tie
+
+returns : tie.Need-returns
+returns c = ap flag (eqZ-yes (same-bits (c .before .fits .a) (c .before .fits .b) (c .if1 .taken)))
+
+returns-2 : tie.Need-returns-2
+returns-2 c = ap flag (eqZ-no (c .before .args .a) (c .before .args .b) (λ e. c .if1 .left (ap (ofZ w64) e)))
+
+pub eq-spec : {M : Type 1} → statement M
+eq-spec = tie.close (tie.spec returns returns-2)

@@ -1,0 +1,3 @@
+pub mod Num
+pub mod Says
+pub mod SignAndSize

@@ -1,0 +1,137 @@
+-- What arithmetic on i64 gives, over the integers: document 01's "Evaluator" and its refusal 10. +, -, *, the order and the
+-- quotient and remainder are the library's own on ℤ. Assumes nothing: these are definitions.
+use Prim.Native.Nat.{ℕ, _-_, _%_, _^_}
+use mathlib.Core.Bool.{Bool, true, false, not, _&&_, _||_}
+use mathlib.Core.List.{List, [], _∷_}
+use lib.Bits.{bitXor}
+use lib.Dec.{ltb, eqb}
+use lib.IntN.{ℤ, pos, negsuc, natAbs, _+ℤ_, _-ℤ_, _*ℤ_}
+use lib.ListN.{getD}
+use lib.Signed.{mag, nonNeg, ltZ, leZ, quotZ, remZ, shrZ}
+use mir.Syntax.{w64}
+use mir.Val.{toZ, ofZ}
+use Rattle.refusals.specs.Answer.{Answer, Done, Refused, pick, andThen}
+use Rattle.refusals.specs.Table.{argument, arithmetic}
+
+-- ---- what an i64 holds
+
+-- "+, -, *, NEG out of i64": z from -2^63 to 2^63 - 1, else 10. (`mag` is n both of n and of -(n + 1).)
+abbrev pub fit : ℤ → Answer ℤ
+fit z = pick (ltb (mag z) (2 ^ 63)) (Done z) (Refused arithmetic)
+
+-- z modulo m, from 0 to m - 1; of -(n + 1) it counts down from m - 1
+abbrev pub modZ : ℕ → ℤ → ℕ
+modZ m (pos n) = n % m
+modZ m (negsuc n) = m - 1 - n % m
+
+-- "the low 64 bits, read as signed"
+abbrev pub wrapped : ℤ → ℤ
+wrapped z = toZ w64 (modZ (2 ^ 64) z)
+
+-- ---- division
+
+-- "Division truncates toward zero; a zero divisor gives 0"; "smallest i64 / -1": 10
+abbrev pub divided : ℤ → ℤ → Answer ℤ
+divided a b = pick (eqb (natAbs b) 0) (Done (pos 0)) (fit (quotZ a b))
+
+-- what the division leaves, with the dividend's sign; "smallest i64 % by -1": 10, as the quotient
+abbrev pub left : ℤ → ℤ → Answer ℤ
+left a b = pick (eqb (natAbs b) 0) (Done (pos 0)) (andThen (fit (quotZ a b)) (λ q. Done (remZ a b)))
+
+-- ---- shifts
+
+-- "a shift count outside 0..63": 10
+abbrev pub counts : ℤ → Bool
+counts k = nonNeg k && ltb (natAbs k) 64
+
+-- by clauses, and not by `pick`, so that no power is computed at a count that is refused
+abbrev pub shiftedBy : Bool → ℤ → ℕ → Answer ℤ
+shiftedBy true a n = Done (wrapped (a *ℤ pos (2 ^ n)))
+shiftedBy false a n = Refused arithmetic
+
+-- "A left shift keeps the low 64 bits, read as signed"
+abbrev pub shifted : ℤ → ℤ → Answer ℤ
+shifted a k = shiftedBy (counts k) a (natAbs k)
+
+abbrev pub halvedBy : Bool → ℤ → ℕ → Answer ℤ
+halvedBy true a n = Done (shrZ a (2 ^ n))
+halvedBy false a n = Refused arithmetic
+
+-- "a right shift rounds down"
+abbrev pub halved : ℤ → ℤ → Answer ℤ
+halved a k = halvedBy (counts k) a (natAbs k)
+
+-- ---- bits and comparisons
+
+-- the exclusive or of the bits
+abbrev pub xored : ℤ → ℤ → ℤ
+xored a b = toZ w64 (bitXor (ofZ w64 a) (ofZ w64 b))
+
+-- a test's answer, as 0 or 1
+abbrev pub flag : Bool → ℤ
+flag true = pos 1
+flag false = pos 0
+
+-- whether two numbers are the same
+abbrev pub eqZ : ℤ → ℤ → Bool
+eqZ (pos a) (pos b) = eqb a b
+eqZ (pos a) (negsuc b) = false
+eqZ (negsuc a) (pos b) = false
+eqZ (negsuc a) (negsuc b) = eqb a b
+
+-- whether z is not 0
+abbrev pub isOn : ℤ → Bool
+isOn z = not (eqb (natAbs z) 0)
+
+-- "NOT (0 to 1, else 0)"
+abbrev pub notOf : ℤ → ℤ
+notOf z = flag (not (isOn z))
+
+-- ---- low bytes
+
+-- "Low byte is the number modulo 256"
+abbrev pub lowByte : ℤ → ℕ
+lowByte z = modZ 256 z
+
+-- "high byte its floor quotient by 256, modulo 256"
+abbrev pub highByte : ℤ → ℕ
+highByte z = modZ 256 (shrZ z 256)
+
+-- the low 16 bits
+abbrev pub lowWord : ℤ → ℕ
+lowWord z = modZ 65536 z
+
+-- ---- the sixteen operators
+
+pub data Operator : Type 0 where
+  Add Sub Mul Div Mod Shl Shr Xor Eq Ne Gt GtEq Lt LtEq And Or : Operator
+
+-- "0..15 as Add Sub Mul Div Mod Shl Shr Xor Eq Ne Gt GtEq Lt LtEq And Or"
+abbrev pub operators : List Operator
+operators = Add ∷ Sub ∷ Mul ∷ Div ∷ Mod ∷ Shl ∷ Shr ∷ Xor ∷ Eq ∷ Ne ∷ Gt ∷ GtEq ∷ Lt ∷ LtEq ∷ And ∷ Or ∷ []
+
+-- what an operator gives; by clauses, so that only the one that is asked for is computed
+abbrev pub operated : Operator → ℤ → ℤ → Answer ℤ
+operated Add a b = fit (a +ℤ b)
+operated Sub a b = fit (a -ℤ b)
+operated Mul a b = fit (a *ℤ b)
+operated Div a b = divided a b
+operated Mod a b = left a b
+operated Shl a b = shifted a b
+operated Shr a b = halved a b
+operated Xor a b = Done (xored a b)
+operated Eq a b = Done (flag (eqZ a b))
+operated Ne a b = Done (flag (not (eqZ a b)))
+operated Gt a b = Done (flag (ltZ b a))
+operated GtEq a b = Done (flag (leZ b a))
+operated Lt a b = Done (flag (ltZ a b))
+operated LtEq a b = Done (flag (leZ a b))
+operated And a b = Done (flag (isOn a && isOn b))
+operated Or a b = Done (flag (isOn a || isOn b))
+
+-- the operator of a number; none: 1
+abbrev pub operatorOf : ℕ → Answer Operator
+operatorOf n = pick (ltb n 16) (Done (getD operators n Add)) (Refused argument)
+
+abbrev pub applied : ℕ → ℤ → ℤ → Answer ℤ
+applied n a b = andThen (operatorOf n) (λ op. operated op a b)

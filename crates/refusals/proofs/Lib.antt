@@ -1,0 +1,2 @@
+-- The law that every crate's Unique.antt applies.
+pub mod Unique
