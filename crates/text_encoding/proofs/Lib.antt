@@ -1,0 +1,3 @@
+-- The law of the ranges, and that the call allows one answer.
+pub mod Laws
+pub mod Unique
