@@ -31,11 +31,11 @@ use Rattle.int64.proofs.low_word.Reads as low-word
 use Rattle.int64.proofs.apply_i64.Reads as apply-i64
 
 -- the case of `Number` that says this
-abbrev back : Answer ℤ → N.Number
+abbrev pub back : Answer ℤ → N.Number
 back (Done z) = number.Is z
 back (Refused n) = number.Refused n
 
-back-says : (x : N.Number) → back (says x) ≡ x
+pub back-says : (x : N.Number) → back (says x) ≡ x
 back-says (number.Is z) = refl
 back-says (number.Refused n) = refl
 
