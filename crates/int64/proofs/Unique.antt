@@ -6,6 +6,7 @@ use Rattle.refusals.proofs.Unique.{OneResult, same, told-apart}
 use Rattle.int64.specs.Says.{says}
 use Rattle.int64.specs.declared.Number as N
 use Rattle.int64.specs.declared.Number.the-variants as number
+use Rattle.int64.proofs.size.Reads as size
 use Rattle.int64.proofs.of_word.Reads as of-word
 use Rattle.int64.proofs.add.Reads as add
 use Rattle.int64.proofs.sub.Reads as sub
@@ -38,6 +39,9 @@ back (Refused n) = number.Refused n
 pub back-says : (x : N.Number) → back (says x) ≡ x
 back-says (number.Is z) = refl
 back-says (number.Refused n) = refl
+
+pub size-one : OneResult size.Post
+size-one k a x y e f p q = same p q
 
 pub of-word-one : OneResult of-word.Post
 of-word-one k a x y e f p q = same p q

@@ -34,7 +34,7 @@ fn negative(x: i64) -> bool
 }
 
 // x without its sign.
-fn size(x: i64) -> u64
+pub fn size(x: i64) -> u64
     ensures { λ r. ⌜ r ≡ natAbs x ⌝ }
 {
     if x < 0 { (!x as u64) + 1 } else { x as u64 }

@@ -1,0 +1,2 @@
+-- The public call allows one answer.
+pub mod Unique
