@@ -1,0 +1,68 @@
+//! Puts questions to the Rust of mos and prints its answers.
+//!
+//! `oracle ask KIND` writes every question of a kind, `oracle sample KIND` the few that are stored
+//! beside the replay programs, and `oracle answer KIND` reads questions from standard input and
+//! prints a line for each. README.md has the form of the questions. A new kind is a file in kinds/
+//! and a line in `kinds::all`.
+
+mod kinds;
+mod random;
+mod refusal;
+
+use kinds::Kind;
+use std::io::{self, BufWriter, Read, Write};
+
+// Reads the words of the command line and does what they say.
+fn main() -> io::Result<()> {
+    let words: Vec<String> = std::env::args().skip(1).collect();
+    let words: Vec<&str> = words.iter().map(String::as_str).collect();
+    match words[..] {
+        ["kinds"] => list_kinds(),
+        ["ask", name] => write_questions((find(name).ask)()),
+        ["sample", name] => write_questions((find(name).sample)()),
+        ["answer", name] => answer_questions(find(name)),
+        _ => fail("usage: oracle kinds | ask KIND | sample KIND | answer KIND"),
+    }
+}
+
+// Ends the program with a message.
+fn fail(message: &str) -> ! {
+    eprintln!("oracle: {message}");
+    std::process::exit(2)
+}
+
+// The kind of this name.
+fn find(name: &str) -> Kind {
+    match kinds::all().into_iter().find(|kind| kind.name == name) {
+        Some(kind) => kind,
+        None => fail(&format!("no kind is called {name}")),
+    }
+}
+
+// Prints a line for each kind: its name, and the bytes of one question.
+fn list_kinds() -> io::Result<()> {
+    for kind in kinds::all() {
+        println!("{} {}", kind.name, kind.width);
+    }
+    Ok(())
+}
+
+// Writes questions as they are.
+fn write_questions(questions: Vec<u8>) -> io::Result<()> {
+    io::stdout().write_all(&questions)
+}
+
+// Reads questions, and prints an answer line for each.
+fn answer_questions(kind: Kind) -> io::Result<()> {
+    let mut questions = vec![];
+    io::stdin().read_to_end(&mut questions)?;
+    if questions.len() % kind.width != 0 {
+        fail("the last question is cut short");
+    }
+    let mut answer = (kind.answerer)();
+    let mut out = BufWriter::new(io::stdout());
+    for question in questions.chunks_exact(kind.width) {
+        writeln!(out, "{}", answer(question))?;
+    }
+    out.flush()
+}
