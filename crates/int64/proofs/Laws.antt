@@ -7,12 +7,12 @@ use native.Mathlib.Nat.{mul-assoc, add-mod, lt-of-le-of-lt}
 use native.Mathlib.Decide.{decLt}
 use lib.Pow.{pow-add, pow-pos}
 use lib.Dec.{T, ltb, leb·suc-zero}
-use lib.IntN.{ℤ, pos, negsuc, negℤ, natAbs, subℕ, _+ℤ_, _-ℤ_, _*ℤ_, negℤ-+ℤ}
+use lib.IntN.{ℤ, pos, negsuc, negℤ, natAbs, subℕ, _+ℤ_, _*ℤ_, negℤ-+ℤ}
 use lib.Signed.{mag, ltZ, leZ, nonNeg, quotZ, remZ, shrZ, mag-shr, mag-rem}
 use mir.Syntax.{w64}
 use mir.Val.{toZ, ofZ, SFits, Fits}
 use mir.Facts.{toZ-ofZ, toZ-pos, toZ-neg, fits-natAbs}
-use borrow.Author.Tests.{ltb-true, ltb-false, lt-ltb, le-ltb, eq-eqb, ne-eqb}
+use borrow.Author.Tests.{ltb-true, lt-ltb, le-ltb, eq-eqb, ne-eqb}
 use mir.ValLaws.{sfits-le}
 use Rattle.int64.proofs.Modulo.{low-bits, low-product}
 use Rattle.refusals.specs.Answer.{Answer, Done, Refused, pick, andThen}
@@ -70,10 +70,10 @@ word-above x f t = ap natAbs (toZ-ofZ f) ∙ w-above x (above x (ap (λ (z : ℤ
 
 -- ---- what fits
 
-pub fit-in : (z : ℤ) → mag z < 2 ^ 63 → fit z ≡ Done z
+fit-in : (z : ℤ) → mag z < 2 ^ 63 → fit z ≡ Done z
 fit-in z h = simp (lt-ltb (mag z) (2 ^ 63) h)
 
-pub fit-out : (z : ℤ) → 2 ^ 63 ≤ mag z → fit z ≡ Refused arithmetic
+fit-out : (z : ℤ) → 2 ^ 63 ≤ mag z → fit z ≡ Refused arithmetic
 fit-out z h = simp (le-ltb (mag z) (2 ^ 63) h)
 
 big : (s : Bool) (m : ℕ) → 2 ^ 63 < m → 2 ^ 63 ≤ mag (signed s m)
@@ -195,8 +195,25 @@ twice w i =
 
 -- ---- comparisons
 
-pub ltZ-read : (a b : ℤ) → SFits w64 a → SFits w64 b → ltZ (toZ w64 (ofZ w64 a)) (toZ w64 (ofZ w64 b)) ≡ ltZ a b
-ltZ-read a b f g = rw (toZ-ofZ f, toZ-ofZ g) refl
+pub read-both : (order : ℤ → ℤ → Bool) {a b : ℤ} → SFits w64 a → SFits w64 b → order (toZ w64 (ofZ w64 a)) (toZ w64 (ofZ w64 b)) ≡ order a b
+read-both order f g = rw (toZ-ofZ f, toZ-ofZ g) refl
+
+eqZ-same : (a : ℤ) → eqZ a a ≡ true
+eqZ-same (pos a) = eq-eqb a a refl
+eqZ-same (negsuc a) = eq-eqb a a refl
+
+pub eqZ-yes : {a b : ℤ} → a ≡ b → true ≡ eqZ a b
+eqZ-yes {a} {b} e = sym (ap (λ (z : ℤ). eqZ a z) (sym e) ∙ eqZ-same a)
+
+pub eqZ-no : (a b : ℤ) → ((a ≡ b) → ⊥) → false ≡ eqZ a b
+eqZ-no (pos a) (pos b) n = sym (ne-eqb a b (λ e. n (ap pos e)))
+eqZ-no (pos a) (negsuc b) n = refl
+eqZ-no (negsuc a) (pos b) n = refl
+eqZ-no (negsuc a) (negsuc b) n = sym (ne-eqb a b (λ e. n (ap negsuc e)))
+
+-- the bits of two numbers are the same just where the numbers are
+pub same-bits : {a b : ℤ} → SFits w64 a → SFits w64 b → ofZ w64 a ≡ ofZ w64 b → a ≡ b
+same-bits f g e = sym (toZ-ofZ f) ∙ ap (toZ w64) e ∙ toZ-ofZ g
 
 -- ---- a shift's count
 
@@ -264,28 +281,6 @@ module _ {a : ℤ} (f : SFits w64 a) (b : ℤ) where
   -- the quotient is not refused
   pub left-is : {q : ℤ} {x : Answer ℤ} → ((natAbs b ≡ 0) → ⊥) → fit (quotZ a b) ≡ Done q → x ≡ fit (remZ a b) → x ≡ left a b
   left-is n e p = p ∙ left-in f b ∙ ap (λ (q : Answer ℤ). andThen q (λ z. Done (remZ a b))) (sym e) ∙ rest n
-
--- ---- more comparisons
-
-pub leZ-read : (a b : ℤ) → SFits w64 a → SFits w64 b → leZ (back a) (back b) ≡ leZ a b
-leZ-read a b f g = rw (toZ-ofZ f, toZ-ofZ g) refl
-
-eqZ-same : (a : ℤ) → eqZ a a ≡ true
-eqZ-same (pos a) = eq-eqb a a refl
-eqZ-same (negsuc a) = eq-eqb a a refl
-
-pub eqZ-yes : {a b : ℤ} → a ≡ b → true ≡ eqZ a b
-eqZ-yes {a} {b} e = sym (ap (λ (z : ℤ). eqZ a z) (sym e) ∙ eqZ-same a)
-
-pub eqZ-no : (a b : ℤ) → ((a ≡ b) → ⊥) → false ≡ eqZ a b
-eqZ-no (pos a) (pos b) n = sym (ne-eqb a b (λ e. n (ap pos e)))
-eqZ-no (pos a) (negsuc b) n = refl
-eqZ-no (negsuc a) (pos b) n = refl
-eqZ-no (negsuc a) (negsuc b) n = sym (ne-eqb a b (λ e. n (ap negsuc e)))
-
--- the bits of two numbers are the same just where the numbers are
-pub same-bits : {a b : ℤ} → SFits w64 a → SFits w64 b → ofZ w64 a ≡ ofZ w64 b → a ≡ b
-same-bits f g e = sym (toZ-ofZ f) ∙ ap (toZ w64) e ∙ toZ-ofZ g
 
 -- ---- And and Or: r is what `on` gave, t what the branch on it says
 

@@ -4,13 +4,12 @@ use mathlib.Core.Path.{_≡_, refl, sym, ap, _∙_, subst}
 use Prim.Native.Nat.{ℕ, zero, suc, _+_, _-_, _*_, _/_, _%_, _^_, _<_}
 use native.Mathlib.Omega.{arith}
 use native.Mathlib.Nat.{add-mul, suc-mul, div-add-mod', mod-lt, mod-eq-of-lt, div-lt-iff-lt-mul, add-mul-mod-self-right}
-use lib.Pow.{pow-pos}
 use lib.IntN.{ℤ, pos, negsuc, negℤ, _*ℤ_}
 use mir.Syntax.{w64}
 use mir.Val.{ofZ, SFits}
 use Rattle.int64.specs.Num.{modZ}
 
-pub counted-down : (m q n : ℕ) → 0 < m → n < q * m → (q * m - suc n) % m ≡ m - 1 - n % m
+counted-down : (m q n : ℕ) → 0 < m → n < q * m → (q * m - suc n) % m ≡ m - 1 - n % m
 counted-down m q n h l =
     let e : n / m * m + n % m ≡ n = div-add-mod' n m in
     let s : n % m < m = mod-lt n h in

@@ -1,9 +1,4 @@
 -- `int64::and` meets its contract, by the three ways out. Assumes nothing.
-use mathlib.Core.Path.{_≡_, refl, sym, ap, _∙_}
-use mathlib.Core.Bool.{Bool, true, false, not}
-use mir.Facts.{toZ-ofZ}
-use mir.Syntax.{w64}
-use mir.Val.{ofZ}
 use Rattle.int64.proofs.Laws.{and-true, and-false, and-none}
 use borrow.Author.Needs.{needs}
 use Rattle.int64.proofs.and.Statement.{statement}
@@ -16,10 +11,16 @@ on-requires-2 : tie.Need-on-requires-2
 on-requires-2 c κs = search needs
 
 returns : tie.Need-returns
-returns c = and-true (c .before .before .before .before .fits .a) (c .before .before .before .before .fits .b) (c .before .before .before .on .ensures) (c .before .before .if1 .taken) (c .before .on2 .ensures) (c .if2 .taken)
+returns c =
+    let first = c .before .before .before in
+    let start = first .before in
+    and-true (start .fits .a) (start .fits .b) (first .on .ensures) (c .before .before .if1 .taken) (c .before .on2 .ensures) (c .if2 .taken)
 
 returns-2 : tie.Need-returns-2
-returns-2 c = and-false (c .before .before .before .before .fits .a) (c .before .before .before .before .fits .b) (c .before .before .before .on .ensures) (c .before .before .if1 .taken) (c .before .on2 .ensures) (c .if2 .left)
+returns-2 c =
+    let first = c .before .before .before in
+    let start = first .before in
+    and-false (start .fits .a) (start .fits .b) (first .on .ensures) (c .before .before .if1 .taken) (c .before .on2 .ensures) (c .if2 .left)
 
 returns-3 : tie.Need-returns-3
 returns-3 c = and-none (c .before .before .fits .a) (c .before .before .args .b) (c .before .on .ensures) (c .if1 .left)

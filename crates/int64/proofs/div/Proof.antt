@@ -1,6 +1,6 @@
 -- `int64::div` meets its contract: by zero; else the quotient of the sizes, with the sign that the two signs give. Assumes nothing.
 use Rattle.int64.proofs.Laws.{quotient}
-use mathlib.Core.Path.{refl, sym, ap, _∙_}
+use mathlib.Core.Path.{sym, ap, _∙_}
 use borrow.Author.Tests.{eq-eqb, ne-eqb}
 use Rattle.int64.specs.Num.{fit}
 use lib.IntN.{natAbs}
@@ -13,7 +13,10 @@ size-requires : tie.Need-size-requires
 size-requires c κs = search needs
 
 returns : tie.Need-returns
-returns c = simp (eq-eqb (natAbs (c .before .before .args .b)) 0 (ap natAbs (sym (toZ-ofZ (c .before .before .fits .b))) ∙ sym (c .before .size .ensures) ∙ c .if1 .taken))
+returns c =
+    let start = c .before .before in
+    let zero = ap natAbs (sym (toZ-ofZ (start .fits .b))) ∙ sym (c .before .size .ensures) ∙ c .if1 .taken in
+    simp (eq-eqb (natAbs (start .args .b)) 0 zero)
 
 negative-requires : tie.Need-negative-requires
 negative-requires c κs = search needs
@@ -31,7 +34,15 @@ join-requires : tie.Need-join-requires
 join-requires c κs = search needs
 
 returns-2 : tie.Need-returns-2
-returns-2 c = simp (ne-eqb (natAbs (c .before .before .before .before .before .before .args .b)) 0 (λ e. c .before .before .before .before .if1 .left (c .before .before .before .before .before .size .ensures ∙ ap natAbs (toZ-ofZ (c .before .before .before .before .before .before .fits .b)) ∙ e))) (c .join .ensures ∙ ap fit (quotient (c .before .before .before .before .before .before .fits .a) (c .before .before .before .before .before .before .fits .b) (c .before .before .before .negative .ensures) (c .before .before .negative2 .ensures) (c .before .size2 .ensures) (c .before .before .before .before .before .size .ensures)))
+returns-2 c =
+    let signs = c .before .before in
+    let tested = signs .before .before in
+    let start = tested .before .before in
+    let b = tested .before .size .ensures in
+    simp (ne-eqb (natAbs (start .args .b)) 0 (λ e. tested .if1 .left (b ∙ ap natAbs (toZ-ofZ (start .fits .b)) ∙ e)))
+    (c .join .ensures
+    ∙ ap fit
+    (quotient (start .fits .a) (start .fits .b) (signs .before .negative .ensures) (signs .negative2 .ensures) (c .before .size2 .ensures) b))
 
 pub div-spec : {M : Type 1} → statement M
 div-spec =

@@ -1,7 +1,7 @@
 -- `int64::doubled` meets its contract. Invariant: after i turns, w times 2 ^ i modulo 2 ^ 64. Each turn leaves fewer. Assumes nothing.
 use Rattle.int64.proofs.Laws.{twice}
-use Prim.Native.Nat.{ℕ, _+_, _-_, _*_, _%_, _^_, _≤_, _<_}
-use mathlib.Core.Path.{_≡_, refl, sym, ap, _∙_}
+use Prim.Native.Nat.{ℕ, _+_, _-_, _*_, _%_, _^_, _≤_}
+use mathlib.Core.Path.{_≡_, sym, ap, _∙_}
 use native.Mathlib.Omega.{arith}
 use native.Mathlib.Nat.{mul-one, mod-eq-of-lt, le-antisymm}
 use borrow.Author.Needs.{needs}

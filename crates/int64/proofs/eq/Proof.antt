@@ -1,7 +1,5 @@
 -- `int64::eq` meets its contract: numbers are the same just where their bits are. Assumes nothing.
-use mathlib.Core.Path.{_≡_, refl, sym, ap, _∙_}
-use mathlib.Core.Bool.{Bool, true, false, not}
-use mir.Facts.{toZ-ofZ}
+use mathlib.Core.Path.{ap}
 use mir.Syntax.{w64}
 use mir.Val.{ofZ}
 use Rattle.int64.proofs.Laws.{eqZ-yes, eqZ-no, same-bits}

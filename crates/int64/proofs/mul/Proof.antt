@@ -1,6 +1,6 @@
 -- `int64::mul` meets its contract: the product of the sizes, with the sign that the two signs give. Assumes nothing.
 use Rattle.int64.proofs.Laws.{multiplied}
-use mathlib.Core.Path.{refl, ap, _∙_}
+use mathlib.Core.Path.{ap, _∙_}
 use Rattle.int64.specs.Num.{fit}
 use borrow.Author.Needs.{needs}
 use Rattle.int64.proofs.mul.Statement.{statement}
@@ -22,7 +22,14 @@ times-requires : tie.Need-times-requires
 times-requires c κs = search needs
 
 returns : tie.Need-returns
-returns c = c .times .ensures ∙ ap fit (multiplied (c .before .before .before .before .before .fits .a) (c .before .before .before .before .before .fits .b) (c .before .before .before .before .negative .ensures) (c .before .before .before .negative2 .ensures) (c .before .before .size .ensures) (c .before .size2 .ensures))
+returns c =
+    let start = c .before .before .before .before .before in
+    let signs = c .before .before .before in
+    c .times .ensures
+    ∙ ap fit
+    (multiplied (start .fits .a) (start .fits .b) (signs .before .negative .ensures) (signs .negative2 .ensures)
+    (c .before .before .size .ensures)
+    (c .before .size2 .ensures))
 
 pub mul-spec : {M : Type 1} → statement M
 mul-spec =

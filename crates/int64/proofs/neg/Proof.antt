@@ -1,6 +1,6 @@
 -- `int64::neg` meets its contract: the size with the other sign. Assumes nothing.
 use Rattle.int64.proofs.Laws.{rejoined-neg}
-use mathlib.Core.Path.{refl, ap, _∙_}
+use mathlib.Core.Path.{ap, _∙_}
 use Rattle.int64.specs.Num.{fit}
 use borrow.Author.Needs.{needs}
 use Rattle.int64.proofs.neg.Statement.{statement}

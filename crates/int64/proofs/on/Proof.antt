@@ -1,9 +1,7 @@
 -- `int64::on` meets its contract: only 0 has size 0. Assumes nothing.
-use mathlib.Core.Path.{_≡_, refl, sym, ap, _∙_}
-use mathlib.Core.Bool.{Bool, true, false, not}
+use mathlib.Core.Path.{ap, _∙_}
+use mathlib.Core.Bool.{not}
 use mir.Facts.{toZ-ofZ}
-use mir.Syntax.{w64}
-use mir.Val.{ofZ}
 use lib.Dec.{eqb}
 use lib.IntN.{natAbs}
 use Prim.Native.Nat.{ℕ}

@@ -13,7 +13,10 @@ size-requires : tie.Need-size-requires
 size-requires c κs = search needs
 
 returns : tie.Need-returns
-returns c = left-zero (c .before .before .fits .a) (c .before .before .args .b) (sym (ap natAbs (toZ-ofZ (c .before .before .fits .b))) ∙ sym (c .before .size .ensures) ∙ c .if1 .taken)
+returns c =
+    let start = c .before .before in
+    left-zero (start .fits .a) (start .args .b)
+    (sym (ap natAbs (toZ-ofZ (start .fits .b))) ∙ sym (c .before .size .ensures) ∙ c .if1 .taken)
 
 size-requires-2 : tie.Need-size-requires-2
 size-requires-2 c κs = search needs
@@ -44,18 +47,34 @@ join-requires-2 c κs = search needs
 
 returns-2 : tie.Need-returns-2
 returns-2 c =
-    let s = c .before .before .before .before .before .before .before .before .before in
-    left-out (s .fits .a) (s .args .b)
-    (λ e. c .before .before .before .before .before .before .before .if1 .left (c .before .before .before .before .before .before .before .before .size .ensures ∙ ap natAbs (toZ-ofZ (s .fits .b)) ∙ e))
-    (sym (c .before .before .before .join .ensures ∙ ap fit (quotient (s .fits .a) (s .fits .b) (c .before .before .before .before .before .negative .ensures) (c .before .before .before .before .negative2 .ensures) (c .before .before .before .before .before .before .size2 .ensures) (c .before .before .before .before .before .before .before .before .size .ensures))) ∙ ap says (c .before .q .given .1))
+    let joined = c .before .before .before in
+    let signs = joined .before in
+    let tested = signs .before .before .before in
+    let start = tested .before .before in
+    let b = tested .before .size .ensures in
+    left-out (start .fits .a) (start .args .b) (λ e. tested .if1 .left (b ∙ ap natAbs (toZ-ofZ (start .fits .b)) ∙ e))
+    (sym
+    (joined .join .ensures
+    ∙ ap fit
+    (quotient (start .fits .a) (start .fits .b) (signs .before .negative .ensures) (signs .negative2 .ensures)
+    (signs .before .before .size2 .ensures)
+    b))
+    ∙ ap says (c .before .q .given .1))
 
 returns-3 : tie.Need-returns-3
 returns-3 c =
-    let s = c .before .before .before .before .before .before .before .before .before in
-    left-is (s .fits .a) (s .args .b)
-    (λ e. c .before .before .before .before .before .before .before .if1 .left (c .before .before .before .before .before .before .before .before .size .ensures ∙ ap natAbs (toZ-ofZ (s .fits .b)) ∙ e))
-    (sym (c .before .before .before .join .ensures ∙ ap fit (quotient (s .fits .a) (s .fits .b) (c .before .before .before .before .before .negative .ensures) (c .before .before .before .before .negative2 .ensures) (c .before .before .before .before .before .before .size2 .ensures) (c .before .before .before .before .before .before .before .before .size .ensures))) ∙ ap says (c .before .enum-told .given .1))
-    (c .join2 .ensures ∙ ap fit (remainder (s .fits .a) (s .fits .b) (c .before .before .before .before .before .negative .ensures) (c .before .before .before .before .before .before .size2 .ensures) (c .before .before .before .before .before .before .before .before .size .ensures)))
+    let joined = c .before .before .before in
+    let signs = joined .before in
+    let tested = signs .before .before .before in
+    let start = tested .before .before in
+    let a = signs .before .before .size2 .ensures in
+    let b = tested .before .size .ensures in
+    left-is (start .fits .a) (start .args .b) (λ e. tested .if1 .left (b ∙ ap natAbs (toZ-ofZ (start .fits .b)) ∙ e))
+    (sym
+    (joined .join .ensures
+    ∙ ap fit (quotient (start .fits .a) (start .fits .b) (signs .before .negative .ensures) (signs .negative2 .ensures) a b))
+    ∙ ap says (c .before .enum-told .given .1))
+    (c .join2 .ensures ∙ ap fit (remainder (start .fits .a) (start .fits .b) (signs .before .negative .ensures) a b))
 
 pub rem-spec : {M : Type 1} → statement M
 rem-spec =

@@ -10,7 +10,9 @@ negative-requires : tie.Need-negative-requires
 negative-requires c κs = search needs
 
 returns : tie.Need-returns
-returns c = shifted-out (c .before .before .args .a) (c .before .before .args .k) (below-count (c .before .before .fits .k) (c .before .negative .ensures) (c .if1 .taken))
+returns c =
+    let start = c .before .before in
+    shifted-out (start .args .a) (start .args .k) (below-count (start .fits .k) (c .before .negative .ensures) (c .if1 .taken))
 
 size-requires : tie.Need-size-requires
 size-requires c κs = search needs
@@ -25,10 +27,24 @@ of-word-requires : tie.Need-of-word-requires
 of-word-requires c κs = search needs
 
 returns-2 : tie.Need-returns-2
-returns-2 c = shifted-in (c .before .before .before .before .before .before .before .fits .a) (c .before .before .before .before .before .before .before .fits .k) (record { sfits = c .of-word .ok }) (counted (c .before .before .before .before .before .before .before .fits .k) (c .before .before .before .before .before .before .negative .ensures) (c .before .before .before .before .before .if1 .left) (c .before .before .before .before .size .ensures) ∙ lt-ltb _ 64 (c .before .before .before .if2 .taken)) (c .before .before .word .ensures) (c .before .before .before .before .size .ensures) (c .before .doubled .ensures) (c .of-word .ensures)
+returns-2 c =
+    let tested = c .before .before .before in
+    let sized = tested .before in
+    let start = sized .before .before .before in
+    let n = sized .size .ensures in
+    shifted-in (start .fits .a) (start .fits .k) (record { sfits = c .of-word .ok })
+    (counted (start .fits .k) (sized .before .before .negative .ensures) (sized .before .if1 .left) n ∙ lt-ltb _ 64 (tested .if2 .taken))
+    (c .before .before .word .ensures)
+    n
+    (c .before .doubled .ensures)
+    (c .of-word .ensures)
 
 returns-3 : tie.Need-returns-3
-returns-3 c = shifted-out (c .before .before .before .before .args .a) (c .before .before .before .before .args .k) (counted (c .before .before .before .before .fits .k) (c .before .before .before .negative .ensures) (c .before .before .if1 .left) (c .before .size .ensures) ∙ le-ltb _ 64 (c .if2 .left))
+returns-3 c =
+    let sized = c .before in
+    let start = sized .before .before .before in
+    shifted-out (start .args .a) (start .args .k)
+    (counted (start .fits .k) (sized .before .before .negative .ensures) (sized .before .if1 .left) (sized .size .ensures) ∙ le-ltb _ 64 (c .if2 .left))
 
 pub shl-spec : {M : Type 1} → statement M
 shl-spec =

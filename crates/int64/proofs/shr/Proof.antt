@@ -1,9 +1,5 @@
 -- `int64::shr` meets its contract: the machine shift rounds down. Assumes nothing.
-use mathlib.Core.Path.{_≡_, refl, sym, ap, _∙_}
-use mathlib.Core.Bool.{Bool, true, false, not}
-use mir.Facts.{toZ-ofZ}
-use mir.Syntax.{w64}
-use mir.Val.{ofZ}
+use mathlib.Core.Path.{_∙_}
 use Rattle.int64.proofs.Laws.{below-count, counted, halved-out, halved-in}
 use borrow.Author.Tests.{lt-ltb, le-ltb}
 use borrow.Author.Needs.{needs}
@@ -14,7 +10,9 @@ negative-requires : tie.Need-negative-requires
 negative-requires c κs = search needs
 
 returns : tie.Need-returns
-returns c = halved-out (c .before .before .args .a) (c .before .before .args .k) (below-count (c .before .before .fits .k) (c .before .negative .ensures) (c .if1 .taken))
+returns c =
+    let start = c .before .before in
+    halved-out (start .args .a) (start .args .k) (below-count (start .fits .k) (c .before .negative .ensures) (c .if1 .taken))
 
 size-requires : tie.Need-size-requires
 size-requires c κs = search needs
@@ -26,10 +24,20 @@ shr-t8 : tie.Need-shr-t8
 shr-t8 c = search needs
 
 returns-2 : tie.Need-returns-2
-returns-2 c = halved-in (c .before .before .before .before .fits .a) (c .before .before .before .before .fits .k) (counted (c .before .before .before .before .fits .k) (c .before .before .before .negative .ensures) (c .before .before .if1 .left) (c .before .size .ensures) ∙ lt-ltb _ 64 (c .if2 .taken)) (c .before .size .ensures)
+returns-2 c =
+    let sized = c .before in
+    let start = sized .before .before .before in
+    let n = sized .size .ensures in
+    halved-in (start .fits .a) (start .fits .k)
+    (counted (start .fits .k) (sized .before .before .negative .ensures) (sized .before .if1 .left) n ∙ lt-ltb _ 64 (c .if2 .taken))
+    n
 
 returns-3 : tie.Need-returns-3
-returns-3 c = halved-out (c .before .before .before .before .args .a) (c .before .before .before .before .args .k) (counted (c .before .before .before .before .fits .k) (c .before .before .before .negative .ensures) (c .before .before .if1 .left) (c .before .size .ensures) ∙ le-ltb _ 64 (c .if2 .left))
+returns-3 c =
+    let sized = c .before in
+    let start = sized .before .before .before in
+    halved-out (start .args .a) (start .args .k)
+    (counted (start .fits .k) (sized .before .before .negative .ensures) (sized .before .if1 .left) (sized .size .ensures) ∙ le-ltb _ 64 (c .if2 .left))
 
 pub shr-spec : {M : Type 1} → statement M
 shr-spec =

@@ -1,7 +1,6 @@
 -- `int64::size` meets its contract: `!x` of an x below zero is its size less one. Assumes nothing.
 use native.Mathlib.Omega.{arith}
-use mathlib.Core.Path.{sym, ap, _∙_}
-use mir.Facts.{toZ-ofZ, fits-lit}
+use mathlib.Core.Path.{sym}
 use Rattle.int64.proofs.Laws.{flipped, size-below, cast-above}
 use borrow.Author.Needs.{needs}
 use Rattle.int64.proofs.size.Statement.{statement}

@@ -21,7 +21,11 @@ sum-requires : tie.Need-sum-requires
 sum-requires c κs = search needs
 
 returns : tie.Need-returns
-returns c = c .sum .ensures ∙ rw (rejoined (c .before .before .before .before .before .fits .a) (c .before .before .before .before .negative .ensures) (c .before .before .before .size .ensures), rejoined-neg (c .before .before .before .before .before .fits .b) (c .before .before .negative2 .ensures) (c .before .size2 .ensures)) refl
+returns c =
+    let start = c .before .before .before .before .before in
+    let a = rejoined (start .fits .a) (c .before .before .before .before .negative .ensures) (c .before .before .before .size .ensures) in
+    let b = rejoined-neg (start .fits .b) (c .before .before .negative2 .ensures) (c .before .size2 .ensures) in
+    c .sum .ensures ∙ rw (a, b) refl
 
 pub sub-spec : {M : Type 1} → statement M
 sub-spec =

@@ -1,7 +1,5 @@
 -- `int64::word` meets its contract: `!x` of an x below zero is 2 ^ 64 less the size, flipped. Assumes nothing.
 use native.Mathlib.Omega.{arith}
-use mathlib.Core.Path.{sym, ap, _∙_}
-use mir.Facts.{toZ-ofZ}
 use Rattle.int64.proofs.Laws.{flipped, word-below, word-above, cast-above}
 use Rattle.int64.proofs.word.Statement.{statement}
 use Rattle.int64.proofs.word.Tie as tie
