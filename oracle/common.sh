@@ -72,7 +72,8 @@ replay() { # KIND QUESTIONS EXPECTED
     copy_crates
     ours=$scratch/$1.ours
     said=$scratch/$1.said
-    rm -f "$ours"
+    # rt runs a program only where something changed since it was last proved
+    rm -rf "$ours" "$scratch/repository/target/stamp/$name"
     cp "$2" "$scratch/repository/crates/$name/stdin"
     cp "$3" "$scratch/repository/crates/$name/stdout"
     (cd "$scratch/repository" && rt check "$name") >"$said" 2>&1
