@@ -1,0 +1,2 @@
+-- The marked cases hold.
+pub mod Marked

@@ -1,0 +1,10 @@
+-- The marked cases hold of the definitions, by computation. Assumes nothing.
+use mathlib.Core.Path.{refl}
+use Rattle.opcodes.specs.Manual.{formsOf}
+use Rattle.opcodes.specs.Encode.{takes, bytesOf, inRange, encodeOf}
+use Rattle.text_encoding.specs.Petscreen.{petscreenOf}
+use Rattle.marked.specs.Marked.{MarkedCases}
+
+pub marked-cases : MarkedCases
+unfolding formsOf takes bytesOf inRange encodeOf petscreenOf
+marked-cases = (refl, (refl, (refl, (refl, (refl, (refl, (refl, (refl, (refl, (refl, (refl, (refl, (refl, (refl, (refl, (refl, (refl, (refl, (refl, tt)))))))))))))))))))

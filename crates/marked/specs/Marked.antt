@@ -1,0 +1,118 @@
+-- Document 01's "Marked cases" 1 to 11: one list of questions and answers, and one statement over it. Each question is put to
+-- the very definition that a promise cites. Assumes nothing: these are definitions.
+use Prim.Native.Nat.{ℕ, _^_}
+use mathlib.Core.Path.{_≡_}
+use mathlib.Core.List.{List, [], _∷_}
+use lib.IntN.{ℤ, pos, negℤ}
+use Rattle.refusals.specs.Answer.{Answer, Done, Refused, mapped}
+use Rattle.refusals.specs.Table.{arithmetic, tooSmall}
+use Rattle.int64.specs.Num.{Operator, Div, Mod, Shl, Shr, operated, fit, notOf}
+use Rattle.opcodes.specs.Encode.{encodeOf}
+use Rattle.text_encoding.specs.Petscreen.{petscreenOf}
+
+-- ---- questions and answers
+
+pub data Question : Type 0 where
+  encode : (mnemonic mode suffix : ℕ) → ℤ → Question
+  operate : Operator → ℤ → ℤ → Question
+  notThenNeg : ℤ → Question
+  petscreen : ℕ → Question
+
+pub data Value : Type 0 where
+  bytes : List ℕ → Value
+  number : ℤ → Value
+
+-- what the definitions answer
+abbrev pub answer : Question → Answer Value
+answer (encode mnemonic mode suffix z) = mapped bytes (encodeOf mnemonic mode suffix z)
+answer (operate op a b) = mapped number (operated op a b)
+answer (notThenNeg z) = mapped number (fit (negℤ (notOf z)))
+answer (petscreen c) = Done (bytes (petscreenOf c ∷ []))
+
+infix 70 _gives_
+pub data Case : Type 0 where
+  _gives_ : Question → Answer Value → Case
+
+-- ---- the list
+
+-- mnemonics, in the order of the alphabet
+abbrev ADC : ℕ
+ADC = 0
+
+abbrev JMP : ℕ
+JMP = 27
+
+abbrev LDA : ℕ
+LDA = 29
+
+abbrev STX : ℕ
+STX = 48
+
+-- modes and suffixes
+abbrev Immediate : ℕ
+Immediate = 1
+
+abbrev AbsoluteOrZp : ℕ
+AbsoluteOrZp = 2
+
+abbrev none : ℕ
+none = 0
+
+abbrev Y : ℕ
+Y = 2
+
+abbrev minus : ℕ → ℤ
+minus n = negℤ (pos n)
+
+abbrev are : List ℕ → Answer Value
+are bs = Done (bytes bs)
+
+abbrev is : ℤ → Answer Value
+is z = Done (number z)
+
+abbrev pub marked : List Case
+marked =
+    -- 1. LDA AbsoluteOrZp 255: A5 FF; 256: AD 00 01
+    encode LDA AbsoluteOrZp none (pos 255) gives are (0xa5 ∷ 0xff ∷ []) ∷
+    encode LDA AbsoluteOrZp none (pos 256) gives are (0xad ∷ 0x00 ∷ 0x01 ∷ []) ∷
+    -- 2. -1: A5 FF; 65,541: AD 05 00
+    encode LDA AbsoluteOrZp none (minus 1) gives are (0xa5 ∷ 0xff ∷ []) ∷
+    encode LDA AbsoluteOrZp none (pos 65541) gives are (0xad ∷ 0x05 ∷ 0x00 ∷ []) ∷
+    -- 3. ADC AbsoluteOrZp,Y 5: 79 05 00
+    encode ADC AbsoluteOrZp Y (pos 5) gives are (0x79 ∷ 0x05 ∷ 0x00 ∷ []) ∷
+    -- 4. LDA Immediate 255: A9 FF; 256: 12
+    encode LDA Immediate none (pos 255) gives are (0xa9 ∷ 0xff ∷ []) ∷
+    encode LDA Immediate none (pos 256) gives Refused tooSmall ∷
+    -- 5. JMP 5: 4C 05 00
+    encode JMP AbsoluteOrZp none (pos 5) gives are (0x4c ∷ 0x05 ∷ 0x00 ∷ []) ∷
+    -- 6. STX AbsoluteOrZp,Y 256: 12
+    encode STX AbsoluteOrZp Y (pos 256) gives Refused tooSmall ∷
+    -- 7. 7/0 and 7%0: 0
+    operate Div (pos 7) (pos 0) gives is (pos 0) ∷
+    operate Mod (pos 7) (pos 0) gives is (pos 0) ∷
+    -- 8. -7/2: -3; -7%2: -1
+    operate Div (minus 7) (pos 2) gives is (minus 3) ∷
+    operate Mod (minus 7) (pos 2) gives is (minus 1) ∷
+    -- 9. 1<<63: smallest i64; 1<<64: 10; -5>>1: -3
+    operate Shl (pos 1) (pos 63) gives is (minus (2 ^ 63)) ∷
+    operate Shl (pos 1) (pos 64) gives Refused arithmetic ∷
+    operate Shr (minus 5) (pos 1) gives is (minus 3) ∷
+    -- 10. NOT with NEG on 0: -1
+    notThenNeg (pos 0) gives is (minus 1) ∷
+    -- 11. Petscreen ff: 5e; c0: 40
+    petscreen 0xff gives are (0x5e ∷ []) ∷
+    petscreen 0xc0 gives are (0x40 ∷ []) ∷
+    []
+
+-- ---- the statement
+
+abbrev pub Holds : Case → Type 0
+Holds (q gives a) = answer q ≡ a
+
+-- of each element of a list
+abbrev pub Each : (Case → Type 0) → List Case → Type 0
+Each P [] = Unit {0}
+Each P (c ∷ cs) = P c × Each P cs
+
+abbrev pub MarkedCases : Type 0
+MarkedCases = Each Holds marked
