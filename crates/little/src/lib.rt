@@ -1,9 +1,9 @@
 // Little-endian numbers at an offset of a slice. Total: what lies past the end reads as zero.
 ghost use mathlib.Core.Path.{_≡_};
-ghost use lib.ListN.{getD};
+ghost use lib.ListN.{getD, take};
 ghost use mir.Syntax.{w64};
 ghost use mir.Val.{toZ};
-ghost use Rattle.little.specs.Little.{Byte, number};
+ghost use Rattle.little.specs.Little.{Byte, number, numberAt};
 
 // The byte at i, or 0.
 fn byte(s: &[u8], i: usize) -> u64
@@ -14,14 +14,14 @@ fn byte(s: &[u8], i: usize) -> u64
 
 // The number of the first two bytes.
 fn first_two(s: &[u8]) -> u16
-    ensures { λ r. ⌜ r ≡ number 2 (now (s .entry)) 0 ⌝ }
+    ensures { λ r. ⌜ r ≡ number (take 2 (now (s .entry))) ⌝ }
 {
     (byte(s, 0) + 0x100 * byte(s, 1)) as u16
 }
 
 // The number of the first eight bytes.
 fn first_eight(s: &[u8]) -> u64
-    ensures { λ r. ⌜ r ≡ number 8 (now (s .entry)) 0 ⌝ }
+    ensures { λ r. ⌜ r ≡ number (take 8 (now (s .entry))) ⌝ }
 {
     byte(s, 0)
         + 0x100 * byte(s, 1)
@@ -35,7 +35,7 @@ fn first_eight(s: &[u8]) -> u64
 
 // The 16-bit number at an offset.
 pub fn u16_at(s: &[u8], at: usize) -> u16
-    ensures { λ r. ⌜ r ≡ number 2 (now (s .entry)) at ⌝ }
+    ensures { λ r. ⌜ r ≡ numberAt 2 (now (s .entry)) at ⌝ }
 {
     if at <= s.len() {
         first_two(&s[at..])
@@ -46,7 +46,7 @@ pub fn u16_at(s: &[u8], at: usize) -> u16
 
 // The 64-bit number at an offset.
 pub fn u64_at(s: &[u8], at: usize) -> u64
-    ensures { λ r. ⌜ r ≡ number 8 (now (s .entry)) at ⌝ }
+    ensures { λ r. ⌜ r ≡ numberAt 8 (now (s .entry)) at ⌝ }
 {
     if at <= s.len() {
         first_eight(&s[at..])
@@ -57,7 +57,7 @@ pub fn u64_at(s: &[u8], at: usize) -> u64
 
 // The i64 of the eight bytes at an offset.
 pub fn i64_at(s: &[u8], at: usize) -> i64
-    ensures { λ r. ⌜ r ≡ toZ w64 (number 8 (now (s .entry)) at) ⌝ }
+    ensures { λ r. ⌜ r ≡ toZ w64 (numberAt 8 (now (s .entry)) at) ⌝ }
 {
     int64::of_word(u64_at(s, at))
 }

@@ -5,6 +5,7 @@ use mathlib.Core.Path.{_≡_}
 use mathlib.Core.List.{List, [], _∷_}
 use lib.IntN.{ℤ, pos, negℤ}
 use Rattle.refusals.specs.Answer.{Answer, Done, Refused, mapped}
+use Rattle.refusals.specs.Each.{Each}
 use Rattle.refusals.specs.Table.{arithmetic, tooSmall}
 use Rattle.int64.specs.Num.{Operator, Div, Mod, Shl, Shr, operated, fit, notOf}
 use Rattle.opcodes.specs.Encode.{encodeOf}
@@ -108,11 +109,6 @@ marked =
 
 abbrev pub Holds : Case → Type 0
 Holds (q gives a) = answer q ≡ a
-
--- of each element of a list
-abbrev pub Each : (Case → Type 0) → List Case → Type 0
-Each P [] = Unit {0}
-Each P (c ∷ cs) = P c × Each P cs
 
 abbrev pub MarkedCases : Type 0
 MarkedCases = Each Holds marked

@@ -16,7 +16,7 @@ use Rattle.int64.specs.declared.Number.the-variants as number
 use Rattle.int64.specs.Num.{modZ, fit}
 use Rattle.int64.specs.Says.{says}
 use Rattle.opcodes.specs.Branch.{offset, inReach, byteOf, distanceOf, signed, reached}
-use Rattle.opcodes.proofs.Never.{never}
+use Rattle.refusals.proofs.Never.{never}
 
 -- ---- offsets and bytes
 

@@ -13,7 +13,8 @@ use Rattle.opcodes.specs.declared.Known.{Known}
 use Rattle.opcodes.specs.Manual.{rowsOf}
 use Rattle.opcodes.specs.Decode.{Instruction, decodeRow, decodeOf}
 use Rattle.opcodes.specs.Says.{saysKnown}
-use Rattle.opcodes.proofs.Manual.{All, shortRow, short-rows}
+use Rattle.refusals.specs.Each.{Each}
+use Rattle.opcodes.proofs.Manual.{shortRow, short-rows}
 
 -- ---- a row
 
@@ -60,5 +61,5 @@ module _ {x : Known} (k : Known) (p : x ≡ k) where
       → a ≡ decodeRow (saysKnown k) (behind bs) → a ≡ decodeOf bs
   of-row bs n e q = rw (first-byte bs n, ← e, p) q
 
-  pub short : (opcode : ℕ) → saysKnown x ≡ rowsOf opcode → All shortRow (saysKnown k)
+  pub short : (opcode : ℕ) → saysKnown x ≡ rowsOf opcode → Each shortRow (saysKnown k)
   short opcode e = rw (← p, e) (short-rows opcode)

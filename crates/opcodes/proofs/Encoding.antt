@@ -17,7 +17,8 @@ use Rattle.opcodes.specs.declared.Code.{Code}
 use Rattle.opcodes.specs.Encode.{lengthOf, lowFirst, bytesOf, takes, tried, encodeForms, inRange, encodeOf, code}
 use Rattle.opcodes.specs.Manual.{formsOf}
 use Rattle.opcodes.specs.Says.{listed}
-use Rattle.opcodes.proofs.Manual.{All, shortForm, short-forms}
+use Rattle.refusals.specs.Each.{Each}
+use Rattle.opcodes.proofs.Manual.{shortForm, short-forms}
 
 -- ---- the operand's bytes
 
@@ -78,5 +79,5 @@ module _ (m o s : ℕ) {r : Bool} (e : r ≡ inRange m o s) where
     unfolding encodeOf
     of-forms y z i q = rw (← e, not-false r n, ← h, p, ← i) q
 
-    pub short : All shortForm (listed v)
+    pub short : Each shortForm (listed v)
     short = rw (← p, h) (short-forms m o s)

@@ -10,8 +10,9 @@ use Rattle.refusals.specs.Answer.{pick}
 use Rattle.opcodes.specs.declared.Form.{Form}
 use Rattle.opcodes.specs.declared.Row.{Row}
 use Rattle.opcodes.specs.Manual.{formsOf, rowsOf, row}
-use Rattle.opcodes.proofs.Table.{from, below, at, triple, at-triple}
-use Rattle.opcodes.proofs.Manual.{All}
+use Rattle.opcodes.specs.Census.{below, triple}
+use Rattle.opcodes.proofs.Table.{from, at, at-triple}
+use Rattle.refusals.specs.Each.{Each}
 
 -- ---- the table, from the manual
 
@@ -73,13 +74,13 @@ module _ (k : ℕ) (h : k < 256) where
   pub is-row : (getD entries k 0 ≡ 0xffff → ⊥) → rowIn (getD entries k 0) ∷ [] ≡ rowsOf k
   is-row e = rw (ne-eqb _ 0xffff e) at read
 
-all-equal : {A : Type 0} (f g : Form → A) (fs : List Form) → map f fs ≡ map g fs → All (λ (x : Form). f x ≡ g x) fs
+all-equal : {A : Type 0} (f g : Form → A) (fs : List Form) → map f fs ≡ map g fs → Each (λ (x : Form). f x ≡ g x) fs
 all-equal f g [] e = tt
 all-equal f g (x ∷ fs) e = (cc, all-equal f g fs (cc))
 
 -- a row's forms are found again by their opcodes
 pub found-again : (m o s : ℕ) → (m < 56) × (o < 5) × (s < 3)
-    → All (λ (f : Form). rowsOf (f .opcode) ≡ row m o s (f .operand) ∷ []) (formsOf m o s)
+    → Each (λ (f : Form). rowsOf (f .opcode) ≡ row m o s (f .operand) ∷ []) (formsOf m o s)
 found-again m o s h =
     all-equal (λ (f : Form). rowsOf (f .opcode)) (λ (f : Form). row m o s (f .operand) ∷ []) (formsOf m o s)
     (at-triple found itself (ap (λ (x : Inverse). x .triples) inverts) m o s h)

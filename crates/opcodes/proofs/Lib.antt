@@ -1,5 +1,4 @@
 -- The theorems of this crate (Census, Packed, Inverse, RoundTrip, Branch, Unique), and the laws that its proofs share.
-pub mod Never
 pub mod Table
 pub mod Manual
 pub mod Census

@@ -9,6 +9,7 @@ use native.Mathlib.Omega.{arith}
 use lib.Dec.{T, ltb, eqb, lit<}
 use lib.ListN.{getD, List·getD-eq-default}
 use borrow.Author.Tests.{ltb-true, ltb-false, ne-eqb, not-true, not-false}
+use Rattle.refusals.specs.Each.{Each}
 use Rattle.opcodes.specs.declared.Form.{Form}
 use Rattle.opcodes.specs.declared.Row.{Row}
 use Rattle.opcodes.specs.Manual.{Mode, acc, imm, zp, zpX, zpY, abs, absX, absY, imp, rel, indX, indY, ind, Entry, _is_, written, isWritten, operandBytes, keep, pages, formsIn, formsOf, rowsIn, rowsFrom, rowsOf}
@@ -83,36 +84,32 @@ beyond m o s {r} e n =
 
 -- ---- at most two operand bytes
 
-abbrev pub All : {A : Type 0} → (A → Type 0) → List A → Type 0
-All P [] = Unit {0}
-All P (x ∷ xs) = P x × All P xs
-
-kept : {A : Type 0} (P : A → Type 0) (b : Bool) (x : A) (xs : List A) → P x → All P xs → All P (keep b x xs)
+kept : {A : Type 0} (P : A → Type 0) (b : Bool) (x : A) (xs : List A) → P x → Each P xs → Each P (keep b x xs)
 kept P true x xs p ps = (p, ps)
 kept P false x xs p ps = ps
 
 abbrev pub shortForm : Form → Type 0
 shortForm f = f .operand < 3
 
-forms-in : (o s : ℕ) (es : List Entry) → All shortForm (formsIn o s es)
+forms-in : (o s : ℕ) (es : List Entry) → Each shortForm (formsIn o s es)
 forms-in o s [] = tt
 forms-in o s ((k is op) ∷ es) = kept shortForm (isWritten k o s) _ _ (operand-limit k) (forms-in o s es)
 
-pub short-forms : (m o s : ℕ) → All shortForm (formsOf m o s)
+pub short-forms : (m o s : ℕ) → Each shortForm (formsOf m o s)
 unfolding formsOf
 short-forms m o s = forms-in o s (getD pages m [])
 
 abbrev pub shortRow : Row → Type 0
 shortRow r = r .operand < 3
 
-rows-in : (opcode m : ℕ) (es : List Entry) (rows : List Row) → All shortRow rows → All shortRow (rowsIn opcode m es rows)
+rows-in : (opcode m : ℕ) (es : List Entry) (rows : List Row) → Each shortRow rows → Each shortRow (rowsIn opcode m es rows)
 rows-in opcode m [] rows h = h
 rows-in opcode m ((k is op) ∷ es) rows h = kept shortRow (eqb op opcode) _ _ (operand-limit k) (rows-in opcode m es rows h)
 
-rows-from : (opcode m : ℕ) (ps : List (List Entry)) → All shortRow (rowsFrom opcode m ps)
+rows-from : (opcode m : ℕ) (ps : List (List Entry)) → Each shortRow (rowsFrom opcode m ps)
 rows-from opcode m [] = tt
 rows-from opcode m (p ∷ ps) = rows-in opcode m p _ (rows-from opcode (suc m) ps)
 
-pub short-rows : (opcode : ℕ) → All shortRow (rowsOf opcode)
+pub short-rows : (opcode : ℕ) → Each shortRow (rowsOf opcode)
 unfolding rowsOf
 short-rows opcode = rows-from opcode 0 pages

@@ -10,7 +10,8 @@ use borrow.Author.Tests.{ltb-true, eq-eqb, ne-eqb}
 use Rattle.refusals.specs.Answer.{pick}
 use Rattle.opcodes.specs.declared.Form.{Form}
 use Rattle.opcodes.specs.Manual.{Written, how, form, formsOf}
-use Rattle.opcodes.proofs.Table.{from, below, triple, at-triple}
+use Rattle.opcodes.specs.Census.{below, triple}
+use Rattle.opcodes.proofs.Table.{from, at-triple}
 
 -- ---- the tables
 

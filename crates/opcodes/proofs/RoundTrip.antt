@@ -13,12 +13,14 @@ use borrow.Author.Tests.{le-leb}
 use Rattle.refusals.specs.Answer.{Answer, Done, Refused, pick}
 use Rattle.refusals.specs.Table.{argument}
 use Rattle.int64.specs.Num.{modZ}
+use Rattle.little.specs.Little.{number}
 use Rattle.opcodes.specs.declared.Form.{Form}
 use Rattle.opcodes.specs.Manual.{formsOf, rowsOf, row}
 use Rattle.opcodes.specs.Encode.{lowFirst, bytesOf, takes, tried, encodeForms, inRange, encodeOf}
-use Rattle.opcodes.specs.Decode.{Instruction, number, decodeRow, decodeOf}
-use Rattle.opcodes.proofs.Never.{never}
-use Rattle.opcodes.proofs.Manual.{All, ranges}
+use Rattle.opcodes.specs.Decode.{Instruction, decodeRow, decodeOf}
+use Rattle.refusals.proofs.Never.{never}
+use Rattle.refusals.specs.Each.{Each}
+use Rattle.opcodes.proofs.Manual.{ranges}
 use Rattle.opcodes.proofs.Inverse.{found-again}
 use Rattle.opcodes.proofs.Encoding.{modZ-below, length-lowFirst}
 
@@ -69,7 +71,7 @@ module _ (m o s : ℕ) (z : ℤ) where
   of-pick true bs cs x h k e = let p : cs ≡ bs = cc in subst (Back m o s z) p h
   of-pick false bs cs x h k e = k e
 
-  of-tried : (fs : List Form) → All (λ (f : Form). rowsOf (f .opcode) ≡ row m o s (f .operand) ∷ []) fs
+  of-tried : (fs : List Form) → Each (λ (f : Form). rowsOf (f .opcode) ≡ row m o s (f .operand) ∷ []) fs
       → (bs : List ℕ) → tried fs z ≡ Done bs → Back m o s z bs
   of-tried [] a bs e = never (cc)
   of-tried (f ∷ fs) a bs e =

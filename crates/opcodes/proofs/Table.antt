@@ -5,17 +5,13 @@ use mathlib.Core.List.{List, [], _∷_}
 use Prim.Native.Nat.{ℕ, zero, suc, _+_, _*_, _/_, _%_, _<_}
 use native.Mathlib.Omega.{arith}
 use native.Mathlib.Nat.{le-of-suc-le-suc, not-suc-le-zero, eq-or-lt-of-le}
+use Rattle.opcodes.specs.Census.{below, triple}
 
 module _ {A : Type 0} where
   -- f k, f (k + 1), .., of n numbers
   abbrev pub from : (ℕ → A) → ℕ → ℕ → List A
   from f k zero = []
   from f k (suc n) = f k ∷ from f (suc k) n
-
-  -- what f gives below n, the last first
-  abbrev pub below : (ℕ → A) → ℕ → List A
-  below f zero = []
-  below f (suc n) = f n ∷ below f n
 
   -- two functions with equal lists are equal at each number below n
   pub at : (f g : ℕ → A) (n : ℕ) → below f n ≡ below g n → (k : ℕ) → k < n → f k ≡ g k
@@ -25,11 +21,7 @@ module _ {A : Type 0} where
       (λ (l : k < n). at f g n (cc) k l)
       (eq-or-lt-of-le (le-of-suc-le-suc h))
 
-  -- of the k-th of the 840 triples of a mnemonic, a mode and a suffix
-  abbrev pub triple : (ℕ → ℕ → ℕ → A) → ℕ → A
-  triple f k = f (k / 15) (k / 3 % 5) (k % 3)
-
-  -- the same of functions of such a triple
+  -- the same of functions of a mnemonic, a mode and a suffix
   pub at-triple : (f g : ℕ → ℕ → ℕ → A) → below (triple f) 840 ≡ below (triple g) 840
       → (m o s : ℕ) → (m < 56) × (o < 5) × (s < 3) → f m o s ≡ g m o s
   at-triple f g e m o s h =

@@ -1,5 +1,5 @@
--- Relative addressing, from the manual: "the offset is added to the program counter when it points at the next instruction;
--- the range is -128 to +127 bytes from the next instruction". A branch is two bytes long.
+-- Relative addressing, as the manual has it: a branch is two bytes long; its second byte is a signed offset, from -128 to
+-- +127, which is added to the program counter once that points at the next instruction.
 -- Assumes nothing: these are definitions.
 use Prim.Native.Nat.{ℕ, _-_}
 use mathlib.Core.Bool.{Bool, _&&_}

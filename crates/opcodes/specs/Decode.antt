@@ -1,22 +1,18 @@
 -- What bytes stand for: the row of the first byte, and the operand that the bytes behind it make.
 -- Assumes nothing: these are definitions.
-use Prim.Native.Nat.{ℕ, _+_, _*_}
+use Prim.Native.Nat.{ℕ}
 use mathlib.Core.List.{List, [], _∷_}
 use lib.Dec.{leb}
 use lib.ListN.{length, take}
 use Rattle.refusals.specs.Answer.{Answer, Done, Refused, pick}
 use Rattle.refusals.specs.Table.{noRow, cutShort}
+use Rattle.little.specs.Little.{number}
 use Rattle.opcodes.specs.declared.Row.{Row}
 use Rattle.opcodes.specs.Manual.{rowsOf}
 
 pub record Instruction : Type 0 where
   pub row : Row
   pub operand : ℕ
-
--- the number that bytes make, low first
-abbrev pub number : List ℕ → ℕ
-number [] = 0
-number (b ∷ bs) = b + 256 * number bs
 
 -- "'none': 6; too few bytes: 7"; bytes behind the operand's are ignored
 abbrev pub decodeRow : List Row → List ℕ → Answer Instruction

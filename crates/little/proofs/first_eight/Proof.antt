@@ -1,6 +1,6 @@
 -- `little::first_eight` meets its contract: eight digits of base 256. Assumes nothing.
 use native.Mathlib.Omega.{arith}
-use Rattle.little.specs.Little.{number}
+use Rattle.little.proofs.Laws.{digits, digits-number}
 use borrow.Author.Needs.{needs}
 use Rattle.little.proofs.first_eight.Statement.{statement}
 use Rattle.little.proofs.first_eight.Tie as tie
@@ -72,8 +72,8 @@ add-result-7 : tie.Need-add-result-7
 add-result-7 c = search needs
 
 returns : tie.Need-returns
-unfolding number
-returns c = omega arith
+unfolding digits
+returns c = omega (arith, digits-number 8 (c .before .before .before .before .before .before .before .before .before .args .s .now))
 
 pub first-eight-spec : {M : Type 1} → statement M
 first-eight-spec =

@@ -1,6 +1,6 @@
 -- `little::first_two` meets its contract: two digits of base 256. Assumes nothing.
 use native.Mathlib.Omega.{arith}
-use Rattle.little.specs.Little.{number}
+use Rattle.little.proofs.Laws.{digits, digits-number}
 use borrow.Author.Needs.{needs}
 use Rattle.little.proofs.first_two.Statement.{statement}
 use Rattle.little.proofs.first_two.Tie as tie
@@ -21,8 +21,8 @@ cast-result : tie.Need-cast-result
 cast-result c = search needs
 
 returns : tie.Need-returns
-unfolding number
-returns c = omega arith
+unfolding digits
+returns c = omega (arith, digits-number 2 (c .before .before .before .args .s .now))
 
 pub first-two-spec : {M : Type 1} → statement M
 first-two-spec =
