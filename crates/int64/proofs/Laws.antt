@@ -17,7 +17,7 @@ use mir.ValLaws.{sfits-le}
 use Rattle.int64.proofs.Modulo.{low-bits, low-product}
 use Rattle.refusals.specs.Answer.{Answer, Done, Refused, pick, andThen}
 use Rattle.refusals.specs.Table.{argument, arithmetic}
-use Rattle.int64.specs.Num.{fit, modZ, wrapped, counts, shifted, shiftedBy, halved, halvedBy, left, eqZ, flag, isOn, notOf, lowByte, highByte, applied}
+use Rattle.int64.specs.Num.{fit, modZ, wrapped, counts, shifted, shiftedBy, halved, halvedBy, remaining, eqZ, flag, isOn, notOf, lowByte, highByte, applied}
 use Rattle.int64.specs.SignAndSize.{belowZero, signed, apart}
 
 -- ---- the test `x < 0`, and the bits of what is below zero
@@ -195,7 +195,7 @@ twice w i =
 
 -- ---- comparisons
 
-pub read-both : (order : ℤ → ℤ → Bool) {a b : ℤ} → SFits w64 a → SFits w64 b → order (toZ w64 (ofZ w64 a)) (toZ w64 (ofZ w64 b)) ≡ order a b
+pub read-both : (order : ℤ → ℤ → Bool) {a b : ℤ} → SFits w64 a → SFits w64 b → order (back a) (back b) ≡ order a b
 read-both order f g = rw (toZ-ofZ f, toZ-ofZ g) refl
 
 eqZ-same : (a : ℤ) → eqZ a a ≡ true
@@ -263,24 +263,24 @@ pub remainder : {a b : ℤ} {na : Bool} {x y : ℕ} → SFits w64 a → SFits w6
 remainder {a} {b} f g p r s = rw (p, r, s) (rem-law (back a) (back b) ∙ rw (toZ-ofZ f, toZ-ofZ g) refl)
 
 -- what is left is never out of range
-left-in : {a : ℤ} → SFits w64 a → (b : ℤ) → fit (remZ a b) ≡ Done (remZ a b)
-left-in {a} f b = fit-in (remZ a b) (lt-of-le-of-lt (mag-rem a b) (f .sfits))
+remaining-in : {a : ℤ} → SFits w64 a → (b : ℤ) → fit (remZ a b) ≡ Done (remZ a b)
+remaining-in {a} f b = fit-in (remZ a b) (lt-of-le-of-lt (mag-rem a b) (f .sfits))
 
 module _ {a : ℤ} (f : SFits w64 a) (b : ℤ) where
   -- by zero
-  pub left-zero : natAbs b ≡ 0 → Done (pos 0) ≡ left a b
-  left-zero e = sym (ap (λ (t : Bool). pick t (Done (pos 0)) (andThen (fit (quotZ a b)) (λ q. Done (remZ a b)))) (eq-eqb (natAbs b) 0 e))
+  pub remaining-zero : natAbs b ≡ 0 → Done (pos 0) ≡ remaining a b
+  remaining-zero e = sym (ap (λ (t : Bool). pick t (Done (pos 0)) (andThen (fit (quotZ a b)) (λ q. Done (remZ a b)))) (eq-eqb (natAbs b) 0 e))
 
-  rest : ((natAbs b ≡ 0) → ⊥) → andThen (fit (quotZ a b)) (λ q. Done (remZ a b)) ≡ left a b
+  rest : ((natAbs b ≡ 0) → ⊥) → andThen (fit (quotZ a b)) (λ q. Done (remZ a b)) ≡ remaining a b
   rest n = sym (ap (λ (t : Bool). pick t (Done (pos 0)) (andThen (fit (quotZ a b)) (λ q. Done (remZ a b)))) (ne-eqb (natAbs b) 0 n))
 
   -- the quotient is refused
-  pub left-out : {n : ℕ} → ((natAbs b ≡ 0) → ⊥) → fit (quotZ a b) ≡ Refused n → Refused n ≡ left a b
-  left-out n e = ap (λ (q : Answer ℤ). andThen q (λ z. Done (remZ a b))) (sym e) ∙ rest n
+  pub remaining-out : {n : ℕ} → ((natAbs b ≡ 0) → ⊥) → fit (quotZ a b) ≡ Refused n → Refused n ≡ remaining a b
+  remaining-out n e = ap (λ (q : Answer ℤ). andThen q (λ z. Done (remZ a b))) (sym e) ∙ rest n
 
   -- the quotient is not refused
-  pub left-is : {q : ℤ} {x : Answer ℤ} → ((natAbs b ≡ 0) → ⊥) → fit (quotZ a b) ≡ Done q → x ≡ fit (remZ a b) → x ≡ left a b
-  left-is n e p = p ∙ left-in f b ∙ ap (λ (q : Answer ℤ). andThen q (λ z. Done (remZ a b))) (sym e) ∙ rest n
+  pub remaining-is : {q : ℤ} {x : Answer ℤ} → ((natAbs b ≡ 0) → ⊥) → fit (quotZ a b) ≡ Done q → x ≡ fit (remZ a b) → x ≡ remaining a b
+  remaining-is n e p = p ∙ remaining-in f b ∙ ap (λ (q : Answer ℤ). andThen q (λ z. Done (remZ a b))) (sym e) ∙ rest n
 
 -- ---- And and Or: r is what `on` gave, t what the branch on it says
 

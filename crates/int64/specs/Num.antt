@@ -35,8 +35,8 @@ abbrev pub divided : ℤ → ℤ → Answer ℤ
 divided a b = pick (eqb (natAbs b) 0) (Done (pos 0)) (fit (quotZ a b))
 
 -- what the division leaves, with the dividend's sign; "smallest i64 % by -1": 10, as the quotient
-abbrev pub left : ℤ → ℤ → Answer ℤ
-left a b = pick (eqb (natAbs b) 0) (Done (pos 0)) (andThen (fit (quotZ a b)) (λ q. Done (remZ a b)))
+abbrev pub remaining : ℤ → ℤ → Answer ℤ
+remaining a b = pick (eqb (natAbs b) 0) (Done (pos 0)) (andThen (fit (quotZ a b)) (λ q. Done (remZ a b)))
 
 -- ---- shifts
 
@@ -116,7 +116,7 @@ operated Add a b = fit (a +ℤ b)
 operated Sub a b = fit (a -ℤ b)
 operated Mul a b = fit (a *ℤ b)
 operated Div a b = divided a b
-operated Mod a b = left a b
+operated Mod a b = remaining a b
 operated Shl a b = shifted a b
 operated Shr a b = halved a b
 operated Xor a b = Done (xored a b)

@@ -10,7 +10,7 @@ ghost use lib.IntN.{natAbs, negℤ, _+ℤ_, _-ℤ_, _*ℤ_};
 ghost use lib.Signed.{ltZ, leZ};
 ghost use mir.Syntax.{w64};
 ghost use mir.Val.{toZ, ofZ};
-ghost use Rattle.int64.specs.Num.{fit, divided, left, shifted, halved, xored, flag, eqZ, isOn, notOf, lowByte, highByte, lowWord, applied};
+ghost use Rattle.int64.specs.Num.{fit, divided, remaining, shifted, halved, xored, flag, eqZ, isOn, notOf, lowByte, highByte, lowWord, applied};
 ghost use Rattle.int64.specs.Says.{says};
 ghost use Rattle.int64.specs.SignAndSize.{belowZero, signed, apart};
 
@@ -166,7 +166,7 @@ pub fn div(a: i64, b: i64) -> Number
 
 // a % b, with a's sign; 0 where b is 0; refused where a / b is.
 pub fn rem(a: i64, b: i64) -> Number
-    ensures { λ r. ⌜ says r ≡ left a b ⌝ }
+    ensures { λ r. ⌜ says r ≡ remaining a b ⌝ }
 {
     let y = size(b);
     if y == 0 {

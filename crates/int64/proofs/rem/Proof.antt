@@ -2,7 +2,7 @@
 use mathlib.Core.Path.{sym, ap, _∙_}
 use mir.Facts.{toZ-ofZ}
 use lib.IntN.{natAbs}
-use Rattle.int64.proofs.Laws.{quotient, remainder, left-zero, left-out, left-is}
+use Rattle.int64.proofs.Laws.{quotient, remainder, remaining-zero, remaining-out, remaining-is}
 use Rattle.int64.specs.Num.{fit}
 use Rattle.int64.specs.Says.{says}
 use borrow.Author.Needs.{needs}
@@ -15,7 +15,7 @@ size-requires c κs = search needs
 returns : tie.Need-returns
 returns c =
     let start = c .before .before in
-    left-zero (start .fits .a) (start .args .b)
+    remaining-zero (start .fits .a) (start .args .b)
     (sym (ap natAbs (toZ-ofZ (start .fits .b))) ∙ sym (c .before .size .ensures) ∙ c .if1 .taken)
 
 size-requires-2 : tie.Need-size-requires-2
@@ -52,7 +52,7 @@ returns-2 c =
     let tested = signs .before .before .before in
     let start = tested .before .before in
     let b = tested .before .size .ensures in
-    left-out (start .fits .a) (start .args .b) (λ e. tested .if1 .left (b ∙ ap natAbs (toZ-ofZ (start .fits .b)) ∙ e))
+    remaining-out (start .fits .a) (start .args .b) (λ e. tested .if1 .left (b ∙ ap natAbs (toZ-ofZ (start .fits .b)) ∙ e))
     (sym
     (joined .join .ensures
     ∙ ap fit
@@ -69,7 +69,7 @@ returns-3 c =
     let start = tested .before .before in
     let a = signs .before .before .size2 .ensures in
     let b = tested .before .size .ensures in
-    left-is (start .fits .a) (start .args .b) (λ e. tested .if1 .left (b ∙ ap natAbs (toZ-ofZ (start .fits .b)) ∙ e))
+    remaining-is (start .fits .a) (start .args .b) (λ e. tested .if1 .left (b ∙ ap natAbs (toZ-ofZ (start .fits .b)) ∙ e))
     (sym
     (joined .join .ensures
     ∙ ap fit (quotient (start .fits .a) (start .fits .b) (signs .before .negative .ensures) (signs .negative2 .ensures) a b))
