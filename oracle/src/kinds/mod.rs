@@ -1,5 +1,8 @@
-//! The kinds of question, one for each module of mos that is asked.
+//! The kinds of question: one for each module of mos that is asked, and decode and branch, which
+//! the port adds to opcodes.rs.
 
+mod branch;
+mod decode;
 mod evaluator;
 mod opcodes;
 mod program_counter;
@@ -25,6 +28,8 @@ pub struct Kind {
 pub fn all() -> Vec<Kind> {
     vec![
         opcodes::kind(),
+        decode::kind(),
+        branch::kind(),
         evaluator::kind(),
         program_counter::kind(),
         text_encoding::kind(),

@@ -80,16 +80,25 @@ fn sample() -> Vec<u8> {
 // Every row at each of some operands.
 fn every_row(operands: &[i64]) -> Vec<u8> {
     let mut out = vec![];
-    for mnemonic in 0..MNEMONICS.len() as u8 {
-        for mode in 0..MODES.len() as u8 {
-            for suffix in 0..SUFFIXES.len() as u8 {
-                for operand in operands {
-                    put(&mut out, [mnemonic, mode, suffix], *operand);
-                }
-            }
+    for row in rows() {
+        for operand in operands {
+            put(&mut out, row, *operand);
         }
     }
     out
+}
+
+// The numbers of every mnemonic, mode and suffix.
+pub fn rows() -> Vec<[u8; 3]> {
+    let mut rows = vec![];
+    for mnemonic in 0..MNEMONICS.len() as u8 {
+        for mode in 0..MODES.len() as u8 {
+            for suffix in 0..SUFFIXES.len() as u8 {
+                rows.push([mnemonic, mode, suffix]);
+            }
+        }
+    }
+    rows
 }
 
 // Adds one question.
@@ -105,11 +114,18 @@ fn answerer() -> Answerer {
 
 // The instruction's bytes.
 fn answer(question: &[u8]) -> String {
+    let row = [question[0], question[1], question[2]];
+    let bytes = encode(row, number_at(question, 3) as i64);
+    or_refused(bytes.map(|bytes| hex(&bytes)))
+}
+
+// Asks the Rust; nothing is returned if it refuses.
+pub fn encode(row: [u8; 3], operand: i64) -> Option<Vec<u8>> {
     let bytes = get_opcode_bytes(
-        MNEMONICS[question[0] as usize],
-        MODES[question[1] as usize],
-        SUFFIXES[question[2] as usize],
-        number_at(question, 3) as i64,
+        MNEMONICS[row[0] as usize],
+        MODES[row[1] as usize],
+        SUFFIXES[row[2] as usize],
+        operand,
     );
-    or_refused(bytes.ok().map(|bytes| hex(&bytes)))
+    bytes.ok().map(|bytes| bytes.to_vec())
 }
