@@ -30,11 +30,11 @@ wrapped z = toZ w64 (modZ (2 ^ 64) z)
 
 -- ---- division
 
--- "Division truncates toward zero; a zero divisor gives 0"; "smallest i64 / -1": 10
+-- "Division truncates toward zero; a zero divisor gives 0"; "smallest i64 / or % by -1": 10
 abbrev pub divided : ℤ → ℤ → Answer ℤ
 divided a b = pick (eqb (natAbs b) 0) (Done (pos 0)) (fit (quotZ a b))
 
--- what the division leaves, with the dividend's sign; "smallest i64 % by -1": 10, as the quotient
+-- what the division leaves, with the dividend's sign; refused where the quotient is: "smallest i64 / or % by -1"
 abbrev pub remaining : ℤ → ℤ → Answer ℤ
 remaining a b = pick (eqb (natAbs b) 0) (Done (pos 0)) (andThen (fit (quotZ a b)) (λ q. Done (remZ a b)))
 

@@ -1,2 +1,3 @@
--- Each public call allows one answer.
+-- The law of places, and that each public call allows one answer.
+pub mod Laws
 pub mod Unique

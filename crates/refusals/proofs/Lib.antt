@@ -1,3 +1,4 @@
--- The law that every crate's Unique.antt applies, and a case that cannot be.
+-- The law that every crate's Unique.antt applies, that it holds of the call here, and a case that cannot be.
 pub mod Unique
+pub mod One
 pub mod Never

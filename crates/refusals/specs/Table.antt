@@ -1,6 +1,7 @@
 -- Document 01's "Numbers a call may answer": the names of src/lib.rt, for definitions to cite.
 -- Assumes nothing: these are definitions.
 use Prim.Native.Nat.{ℕ}
+use mathlib.Core.List.{List, [], _∷_}
 
 -- "an argument, index or buffer length is outside its stated range; tested first"
 abbrev pub argument : ℕ
@@ -73,3 +74,9 @@ numberDiffers = 17
 -- "bytes differ"
 abbrev pub bytesDiffer : ℕ
 bytesDiffer = 18
+
+-- the names in the table's order
+abbrev pub numbers : List ℕ
+numbers =
+    argument ∷ noRoom ∷ nameTaken ∷ loop ∷ badRecord ∷ noRow ∷ cutShort ∷ unpaired ∷ tooDeep ∷ arithmetic ∷ unresolved ∷
+    tooSmall ∷ moved ∷ tooFar ∷ outside ∷ notSettled ∷ numberDiffers ∷ bytesDiffer ∷ []

@@ -1,4 +1,7 @@
 // Document 01's "Numbers a call may answer", each under its name. Every refusal of every crate is one of these.
+ghost use mathlib.Core.Path.{_≡_};
+ghost use Rattle.refusals.specs.Table.{numbers};
+
 pub const ARGUMENT: u8 = 1;
 
 pub const NO_ROOM: u8 = 2;
@@ -34,3 +37,29 @@ pub const NOT_SETTLED: u8 = 16;
 pub const NUMBER_DIFFERS: u8 = 17;
 
 pub const BYTES_DIFFER: u8 = 18;
+
+// The numbers under these names, in the table's order: those that definitions cite.
+pub fn all() -> [u8; 18]
+    ensures { λ r. ⌜ r ≡ numbers ⌝ }
+{
+    [
+        ARGUMENT,
+        NO_ROOM,
+        NAME_TAKEN,
+        LOOP,
+        BAD_RECORD,
+        NO_ROW,
+        CUT_SHORT,
+        UNPAIRED,
+        TOO_DEEP,
+        ARITHMETIC,
+        UNRESOLVED,
+        TOO_SMALL,
+        MOVED,
+        TOO_FAR,
+        OUTSIDE,
+        NOT_SETTLED,
+        NUMBER_DIFFERS,
+        BYTES_DIFFER,
+    ]
+}
