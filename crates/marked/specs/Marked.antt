@@ -1,14 +1,16 @@
--- Document 01's "Marked cases" 1 to 11: one list of questions and answers, and one statement over it. Each question is put to
+-- Document 01's "Marked cases": one list of questions and answers, and one statement over it. Each question is put to
 -- the very definition that a promise cites. Assumes nothing: these are definitions.
 use Prim.Native.Nat.{ℕ, _^_}
 use mathlib.Core.Path.{_≡_}
 use mathlib.Core.List.{List, [], _∷_}
 use lib.IntN.{ℤ, pos, negℤ}
+use lib.ListN.{replicate}
 use Rattle.refusals.specs.Answer.{Answer, Done, Refused, mapped}
 use Rattle.refusals.specs.Each.{Each}
-use Rattle.refusals.specs.Table.{arithmetic, tooSmall}
+use Rattle.refusals.specs.Table.{arithmetic, tooSmall, outside}
 use Rattle.int64.specs.Num.{Operator, Div, Mod, Shl, Shr, operated, fit, notOf}
 use Rattle.opcodes.specs.Encode.{encodeOf}
+use Rattle.segment.specs.Segment.{size, begun, emit}
 use Rattle.text_encoding.specs.Petscreen.{petscreenOf}
 
 -- ---- questions and answers
@@ -18,10 +20,12 @@ pub data Question : Type 0 where
   operate : Operator → ℤ → ℤ → Question
   notThenNeg : ℤ → Question
   petscreen : ℕ → Question
+  emitAt : ℕ → List ℕ → Question
 
 pub data Value : Type 0 where
   bytes : List ℕ → Value
   number : ℤ → Value
+  range : (start end : ℕ) → Value
 
 -- what the definitions answer
 abbrev pub answer : Question → Answer Value
@@ -29,6 +33,7 @@ answer (encode mnemonic mode suffix z) = mapped bytes (encodeOf mnemonic mode su
 answer (operate op a b) = mapped number (operated op a b)
 answer (notThenNeg z) = mapped number (fit (negℤ (notOf z)))
 answer (petscreen c) = Done (bytes (petscreenOf c ∷ []))
+answer (emitAt place bs) = mapped (λ pen. range (pen .start) (pen .end)) (emit (begun place place) (replicate size 0) bs)
 
 infix 70 _gives_
 pub data Case : Type 0 where
@@ -103,6 +108,9 @@ marked =
     -- 11. Petscreen ff: 5e; c0: 40
     petscreen 0xff gives are (0x5e ∷ []) ∷
     petscreen 0xc0 gives are (0x40 ∷ []) ∷
+    -- 12. One byte at 65,535 fits; two do not
+    emitAt 65535 (0xea ∷ []) gives Done (range 65535 65536) ∷
+    emitAt 65535 (0xea ∷ 0xea ∷ []) gives Refused outside ∷
     []
 
 -- ---- the statement

@@ -13,8 +13,8 @@ use Rattle.program_counter.specs.declared.Short.{Short}
 use Rattle.program_counter.specs.declared.Short.the-variants as short
 use Rattle.program_counter.specs.declared.LeBytes.{LeBytes}
 use Rattle.program_counter.specs.declared.LeBytes.the-variants as bytes
-use Rattle.program_counter.specs.declared.EmptyRange.{EmptyRange}
-use Rattle.program_counter.specs.declared.EmptyRange.the-variants as range
+use Rattle.program_counter.specs.declared.Extent.{Extent}
+use Rattle.program_counter.specs.declared.Extent.the-variants as range
 use Rattle.program_counter.proofs.ProgramCounter.new.Reads as new
 use Rattle.program_counter.proofs.ProgramCounter.add.Reads as add
 use Rattle.program_counter.proofs.ProgramCounter.sub.Reads as sub
@@ -25,11 +25,11 @@ use Rattle.program_counter.proofs.ProgramCounter.as_empty_range.Reads a
 
 -- ---- of each answer, the case that says this
 
-abbrev backPlace : Answer ℕ → Place
+abbrev pub backPlace : Answer ℕ → Place
 backPlace (Done p) = place.At (record { 0 = p })
 backPlace (Refused n) = place.Refused n
 
-back-place : (x : Place) → backPlace (saysPlace x) ≡ x
+pub back-place : (x : Place) → backPlace (saysPlace x) ≡ x
 back-place (place.At pc) = refl
 back-place (place.Refused n) = refl
 
@@ -51,11 +51,11 @@ back-bytes : (x : LeBytes) → backBytes (saysBytes x) ≡ x
 back-bytes (bytes.Are low high) = refl
 back-bytes (bytes.Refused n) = refl
 
-abbrev backRange : Answer (ℕ × ℕ) → EmptyRange
+abbrev pub backRange : Answer (ℕ × ℕ) → Extent
 backRange (Done r) = range.Is (record { start = r .0; end = r .1 })
 backRange (Refused n) = range.Refused n
 
-back-range : (x : EmptyRange) → backRange (saysRange x) ≡ x
+pub back-range : (x : Extent) → backRange (saysRange x) ≡ x
 back-range (range.Is r) = refl
 back-range (range.Refused n) = refl
 

@@ -8,8 +8,8 @@ use Rattle.program_counter.specs.declared.Short as S
 use Rattle.program_counter.specs.declared.Short.the-variants as short
 use Rattle.program_counter.specs.declared.LeBytes as B
 use Rattle.program_counter.specs.declared.LeBytes.the-variants as bytes
-use Rattle.program_counter.specs.declared.EmptyRange as E
-use Rattle.program_counter.specs.declared.EmptyRange.the-variants as range
+use Rattle.program_counter.specs.declared.Extent as E
+use Rattle.program_counter.specs.declared.Extent.the-variants as range
 
 abbrev pub saysPlace : P.Place → Answer ℕ
 saysPlace (place.At pc) = Done (pc .0)
@@ -23,6 +23,6 @@ abbrev pub saysBytes : B.LeBytes → Answer (List ℕ)
 saysBytes (bytes.Are low high) = Done (low ∷ high ∷ [])
 saysBytes (bytes.Refused n) = Refused n
 
-abbrev pub saysRange : E.EmptyRange → Answer (ℕ × ℕ)
+abbrev pub saysRange : E.Extent → Answer (ℕ × ℕ)
 saysRange (range.Is r) = Done (r .start, r .end)
 saysRange (range.Refused n) = Refused n

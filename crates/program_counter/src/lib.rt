@@ -35,7 +35,7 @@ pub enum LeBytes {
     Refused(u8),
 }
 
-pub enum EmptyRange {
+pub enum Extent {
     Is(Range),
     Refused(u8),
 }
@@ -119,14 +119,14 @@ impl ProgramCounter {
     }
 
     // The range that begins and ends at the place.
-    pub fn as_empty_range(self) -> EmptyRange
+    pub fn as_empty_range(self) -> Extent
         ensures { λ r. ⌜ saysRange r ≡ emptyRange (self .0) ⌝ }
     {
         let pc = self.0;
         if pc <= LAST {
-            EmptyRange::Is(Range { start: pc, end: pc })
+            Extent::Is(Range { start: pc, end: pc })
         } else {
-            EmptyRange::Refused(ARGUMENT)
+            Extent::Refused(ARGUMENT)
         }
     }
 }

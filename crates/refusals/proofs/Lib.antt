@@ -2,3 +2,4 @@
 pub mod Unique
 pub mod One
 pub mod Never
+pub mod Pick

@@ -22,3 +22,13 @@ mapped f (Refused n) = Refused n
 abbrev pub andThen : {A B : Type 0} → Answer A → (A → Answer B) → Answer B
 andThen (Done a) f = f a
 andThen (Refused n) f = Refused n
+
+-- that it was done, or the refusal; the value is left out
+abbrev pub outcome : {A : Type 0} → Answer A → Answer (Unit {0})
+outcome (Done a) = Done tt
+outcome (Refused n) = Refused n
+
+-- "Refused calls leave table, map, pen, image and query_all's list unchanged": the first where a call is done, else the second
+abbrev pub ifDone : {A B : Type 0} → Answer A → B → B → B
+ifDone (Done a) x y = x
+ifDone (Refused n) x y = y

@@ -1,3 +1,5 @@
 pub mod Answer
 pub mod Table
 pub mod Each
+pub mod Says
+pub mod Memory

@@ -38,6 +38,12 @@ pub const NUMBER_DIFFERS: u8 = 17;
 
 pub const BYTES_DIFFER: u8 = 18;
 
+// What a call answers that hands over nothing but whether it was done.
+pub enum Outcome {
+    Done,
+    Refused(u8),
+}
+
 // The numbers under these names, in the table's order: those that definitions cite.
 pub fn all() -> [u8; 18]
     ensures { λ r. ⌜ r ≡ numbers ⌝ }

@@ -4,7 +4,7 @@
 use int64::Number;
 use libc::STDIN_FILENO;
 use libc::STDOUT_FILENO;
-use program_counter::EmptyRange;
+use program_counter::Extent;
 use program_counter::LeBytes;
 use program_counter::Place;
 use program_counter::ProgramCounter;
@@ -55,10 +55,10 @@ fn print_number(answer: Number) {
     }
 }
 
-fn print_range(answer: EmptyRange) {
+fn print_range(answer: Extent) {
     match answer {
-        EmptyRange::Is(r) => print_two(r.start as u64, r.end as u64),
-        EmptyRange::Refused(_) => print_refused(),
+        Extent::Is(r) => print_two(r.start as u64, r.end as u64),
+        Extent::Refused(_) => print_refused(),
     }
 }
 

@@ -1,0 +1,205 @@
+-- What a sound pen has, what an emit's room is, and the lists of a clearing and of a copy. Assumes nothing.
+use mathlib.Core.Bool.{Bool, true, false, not, _&&_, cond, false≢true}
+use mathlib.Core.Path.{_≡_, refl, sym, ap, _∙_}
+use mathlib.Core.List.{List, [], _∷_, _++_}
+use Prim.Native.Nat.{ℕ, zero, suc, _+_, _-_, _^_, _<_, _≤_, min, max}
+use native.Mathlib.Omega.{arith}
+use lib.Dec.{leb, ltb}
+use lib.IntN.{pos, negsuc, _-ℤ_}
+use lib.ListN.{length, take, drop, set, replicate}
+use lib.Signed.{mag}
+use mir.Syntax.{w64}
+use mir.Val.{SFits, toZ, ofZ}
+use mir.Facts.{toZ-ofZ}
+use borrow.Author.Tests.{leb-true, eqb-true, le-leb, lt-leb, eq-eqb, ne-eqb, not-true, not-false}
+use Rattle.refusals.specs.Answer.{Answer, Done, Refused, ifDone}
+use Rattle.refusals.specs.Memory.{over}
+use Rattle.refusals.specs.Table.{argument}
+use Rattle.refusals.proofs.Pick.{at-true, at-false, passed}
+use Rattle.segment.specs.declared.Pen.{Pen}
+use Rattle.segment.specs.Segment.{size, begun, new, sound, soundOver, fits, widened, ofBoth, rangeData, partOf, ground, emit, imageAfter}
+use Rattle.segment.specs.Says.{left}
+
+-- ---- tests
+
+both : (a b : Bool) → a && b ≡ true → (a ≡ true) × (b ≡ true)
+both true b h = (refl, h)
+both false b h = absurd (false≢true h)
+
+untrue : (b : Bool) → (b ≡ true → ⊥) → false ≡ b
+untrue true h = absurd (h refl)
+untrue false h = refl
+
+-- two tests that hold together are one
+same-test : (a b c d : ℕ) → (a ≤ b → c ≤ d) → (c ≤ d → a ≤ b) → leb a b ≡ leb c d
+same-test a b c d f g = go (leb a b) refl
+  where
+    go : (t : Bool) → leb a b ≡ t → t ≡ leb c d
+    go true e = sym (le-leb _ _ (f (leb-true _ _ e)))
+    go false e = untrue (leb c d) (λ h. false≢true (sym e ∙ le-leb _ _ (g (leb-true _ _ h))))
+
+-- ---- sound
+
+pub record Sound (p : Pen) : Type 0 where
+  pub place : p .place ≤ 65536
+  pub initial : p .initial ≤ 65536
+  pub target : p .target ≤ 65536
+  pub start : p .start ≤ p .end
+  pub end : p .end ≤ 65536
+
+pub sound-has : (p : Pen) → sound p ≡ true → Sound p
+unfolding sound
+sound-has p h =
+    let a = both _ _ h in
+    let b = both _ _ (a .0) in
+    let c = both _ _ (b .0) in
+    let d = both _ _ (c .0) in
+    record {
+      place = leb-true _ _ (d .0);
+      initial = leb-true _ _ (d .1);
+      target = leb-true _ _ (c .1);
+      start = leb-true _ _ (b .1);
+      end = leb-true _ _ (a .1);
+    }
+
+-- where all else is right, the range's end decides
+pub sound-by-end : (p : Pen) → p .place ≤ 65536 → p .initial ≤ 65536 → p .target ≤ 65536 → p .start ≤ p .end → leb (p .end) 65536 ≡ sound p
+unfolding sound
+sound-by-end p a b c d = simp (le-leb _ _ a, le-leb _ _ b, le-leb _ _ c, le-leb _ _ d)
+
+pub sound-not : (p : Pen) → (Sound p → ⊥) → false ≡ sound p
+sound-not p h = untrue (sound p) (λ e. h (sound-has p e))
+
+pub sound-over-has : (p : Pen) (n : ℕ) → soundOver p n ≡ true → (n ≡ 65536) × Sound p
+unfolding soundOver
+sound-over-has p n h =
+    let a = both _ _ h in
+    (eqb-true _ _ (a .0), sound-has p (a .1))
+
+pub over-not : (p : Pen) (n : ℕ) → (n ≡ 65536 → ⊥) → false ≡ soundOver p n
+unfolding soundOver
+over-not p n h = simp (ne-eqb _ _ h)
+
+pub over-by : (p : Pen) (n : ℕ) → n ≡ 65536 → sound p ≡ soundOver p n
+unfolding soundOver
+over-by p n h = simp (eq-eqb _ _ h)
+
+-- ---- new
+
+pub new-not : (i t : ℕ) → (i ≤ 65536 → t ≤ 65536 → ⊥) → Refused argument ≡ new i t
+unfolding new
+new-not i t h = at-false _ _ (sym (untrue (leb i size && leb t size) (λ e. let b = both (leb i size) (leb t size) e in h (leb-true _ _ (b .0)) (leb-true _ _ (b .1)))))
+
+pub new-is : (i t : ℕ) → i ≤ 65536 → t ≤ 65536 → {q : Pen} → q ≡ begun i t → Done q ≡ new i t
+unfolding new
+new-is i t h k e = simp (le-leb _ _ h, le-leb _ _ k) (ap Done e)
+
+-- ---- room
+
+-- at a place inside the image, n bytes fit where n is at most what is left
+pub fits-by : (p : Pen) (n : ℕ) → p .place < 65536 → leb n (65536 - p .place) ≡ fits p n
+unfolding fits
+fits-by p n h =
+    let a : p .place ≤ 65535 = omega arith in
+    simp (le-leb _ _ a) (same-test n (65536 - p .place) (p .place + n) 65536 (λ l. omega arith) (λ l. omega arith))
+
+pub fits-not : (p : Pen) (n : ℕ) → 65536 ≤ p .place → false ≡ fits p n
+unfolding fits
+fits-not p n h =
+    let a : 65535 < p .place = omega arith in
+    simp (lt-leb _ _ a)
+
+-- the bytes of an accepted emit end inside the image
+pub fits-has : (p : Pen) (n : ℕ) → fits p n ≡ true → p .place + n ≤ 65536
+unfolding fits
+fits-has p n h = leb-true _ _ (both (leb (p .place) 65535) (leb (p .place + n) 65536) h .1)
+
+-- ---- the range
+
+-- the pen behind the first bytes, and behind more
+pub widened-first : (p : Pen) (n : ℕ) → p .emitted ≡ false
+    → _≡_ {A = Pen} (record { place = p .place + n; initial = p .initial; target = p .target; start = p .place; end = p .place + n; emitted = true }) (widened p n)
+unfolding widened
+widened-first p n e = simp e
+
+pub widened-again : (p : Pen) (n : ℕ) {a b : ℕ} → p .emitted ≡ true → a ≡ min (p .start) (p .place) → b ≡ max (p .end) (p .place + n)
+    → _≡_ {A = Pen} (record { place = p .place + n; initial = p .initial; target = p .target; start = a; end = b; emitted = true }) (widened p n)
+unfolding widened
+widened-again p n e f g = simp e (λ i. record { place = p .place + n; initial = p .initial; target = p .target; start = f i; end = g i; emitted = true })
+
+-- ---- signed numbers
+
+-- a number of less than 63 bits, read as signed
+read : (n : ℕ) → n < 2 ^ 63 → toZ w64 n ≡ pos n
+read n h = toZ-ofZ {w = w64} {z = pos n} (record { sfits = h })
+
+mag-cond : (t : Bool) (a b : ℕ) → a < 2 ^ 63 → b < 2 ^ 63 → mag (cond t (negsuc a) (pos b)) < 2 ^ 63
+mag-cond true a b h k = h
+mag-cond false a b h k = k
+
+apart : (a b : ℕ) → a < 2 ^ 63 → b < 2 ^ 63 → mag (pos a -ℤ pos b) < 2 ^ 63
+apart a zero h k = omega arith
+apart a (suc b) h k = mag-cond (ltb a (suc b)) (suc b - suc a) (a - suc b) (omega arith) (omega arith)
+
+module _ (a b : ℕ) (h : a < 2 ^ 63) (k : b < 2 ^ 63) where
+  -- the difference of two of them is an i64
+  pub difference-fits : SFits w64 (toZ w64 a -ℤ toZ w64 b)
+  difference-fits = simp (read a h, read b k) (record { sfits = apart a b h k })
+
+  -- and is what the machine gives
+  pub difference-is : toZ w64 (ofZ w64 (toZ w64 a -ℤ toZ w64 b)) ≡ pos a -ℤ pos b
+  difference-is = toZ-ofZ difference-fits ∙ (λ i. read a h i -ℤ read b k i)
+
+-- ---- the image
+
+-- the first i bytes zero, the rest as it was
+pub cleared : List ℕ → ℕ → List ℕ
+cleared xs i = replicate i 0 ++ drop i xs
+
+pub cleared-zero : (xs : List ℕ) → xs ≡ cleared xs 0
+unfolding cleared
+cleared-zero [] = refl
+cleared-zero (x ∷ xs) = refl
+
+pub cleared-suc : (xs : List ℕ) (i : ℕ) → i < length xs → set (cleared xs i) i 0 ≡ cleared xs (suc i)
+unfolding cleared
+cleared-suc [] i h = absurd (omega arith)
+cleared-suc (x ∷ xs) zero h = refl
+cleared-suc (x ∷ xs) (suc i) h = ap (λ (l : List ℕ). 0 ∷ l) (cleared-suc xs i (omega arith))
+
+pub cleared-all : (xs : List ℕ) → cleared xs (length xs) ≡ replicate (length xs) 0
+unfolding cleared
+cleared-all [] = refl
+cleared-all (x ∷ xs) = ap (λ (l : List ℕ). 0 ∷ l) (cleared-all xs)
+
+-- bytes over the image as it is, and over one that was cleared
+module _ (image bytes : List ℕ) (at : ℕ) {t : Bool} {after : List ℕ} where
+  pub over-again : t ≡ true → after ≡ over image at bytes → after ≡ over (ground t image) at bytes
+  unfolding ground
+  over-again e f = simp e f
+
+  pub over-first : {before : List ℕ} → t ≡ false → before ≡ replicate (length image) 0 → after ≡ over before at bytes → after ≡ over (ground t image) at bytes
+  unfolding ground
+  over-first e z f = simp e (f ∙ ap (λ (l : List ℕ). over l at bytes) z)
+
+-- the part that the range covers: none before the first emit
+module _ (p : Pen) (image : List ℕ) {t : Bool} (e : t ≡ soundOver p (length image)) (passes : not t ≡ false) where
+  pub part-none : not (p .emitted) ≡ true → [] ≡ partOf (rangeData p image)
+  unfolding rangeData ofBoth
+  part-none h = ap partOf (ap Done (at-false _ _ (not-true (p .emitted) h)) ∙ passed _ _ e passes)
+
+  pub part-covered : not (p .emitted) ≡ false → take (p .end - p .start) (drop (p .start) image) ≡ partOf (rangeData p image)
+  unfolding rangeData ofBoth
+  part-covered h = ap partOf (ap Done (at-true _ _ (not-false (p .emitted) h)) ∙ passed _ _ e passes)
+
+-- what an emit gives, d, and the image it leaves
+module _ (p : Pen) (image bytes : List ℕ) {d : Pen × Answer (Unit {0})} where
+  pub emit-refused : {n : ℕ} → d ≡ left p (Refused n) → Refused n ≡ emit p image bytes
+      → (d ≡ left p (emit p image bytes)) × (image ≡ imageAfter p image bytes)
+  unfolding imageAfter
+  emit-refused e f = (e ∙ ap (left p) f, ap (λ (a : Answer Pen). ifDone a (over (ground (p .emitted) image) (p .place) bytes) image) f)
+
+  pub emit-done : {q : Pen} {after : List ℕ} → d ≡ left p (Done q) → Done q ≡ emit p image bytes → after ≡ over (ground (p .emitted) image) (p .place) bytes
+      → (d ≡ left p (emit p image bytes)) × (after ≡ imageAfter p image bytes)
+  unfolding imageAfter
+  emit-done e f g = (e ∙ ap (left p) f, g ∙ ap (λ (a : Answer Pen). ifDone a (over (ground (p .emitted) image) (p .place) bytes) image) f)
