@@ -1,5 +1,6 @@
--- The law that every crate's Unique.antt applies, that it holds of the call here, and a case that cannot be.
+-- The law that every crate's Unique.antt applies, that it holds of the call here, and small laws that all crates share.
 pub mod Unique
 pub mod One
 pub mod Never
 pub mod Pick
+pub mod Memory

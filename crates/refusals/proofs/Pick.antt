@@ -1,20 +1,37 @@
--- Which side `pick` takes, by the answer r of a function that says what the test t is. Assumes nothing.
+-- What a function's answer says of the test that it tells, and which side `pick` takes then. Assumes nothing.
 use mathlib.Core.Bool.{Bool, true, false, not}
 use mathlib.Core.Path.{_≡_, refl, sym, _∙_}
+use Prim.Native.Nat.{ℕ}
 use borrow.Author.Tests.{not-true, not-false}
-use Rattle.refusals.specs.Answer.{pick}
+use Rattle.refusals.specs.Answer.{Answer, Done, Refused, pick}
+use Rattle.refusals.proofs.Never.{never}
 
-module _ {A : Type 0} (a b : A) where
-  pub at-true : {t : Bool} → t ≡ true → a ≡ pick t a b
+-- ---- around `if !r { .. }`, where r tells the test t
+
+-- behind it, the test holds
+pub granted : {r t : Bool} → r ≡ t → not r ≡ false → t ≡ true
+granted {r} e h = sym e ∙ not-false r h
+
+-- inside it, it does not
+pub denied : {r t : Bool} → r ≡ t → not r ≡ true → t ≡ false
+denied {r} e h = sym e ∙ not-true r h
+
+-- ---- the side
+
+module _ {A : Type 0} (a b : A) {t : Bool} where
+  pub at-true : t ≡ true → a ≡ pick t a b
   at-true h = simp h refl
 
-  pub at-false : {t : Bool} → t ≡ false → b ≡ pick t a b
+  pub at-false : t ≡ false → b ≡ pick t a b
   at-false h = simp h refl
 
-  -- behind `if !r { .. }`: the test holds
-  pub passed : {t r : Bool} → r ≡ t → not r ≡ false → a ≡ pick t a b
-  passed {t} {r} p h = at-true (sym p ∙ not-false r h)
+  pub passed : {r : Bool} → r ≡ t → not r ≡ false → a ≡ pick t a b
+  passed e h = at-true (granted e h)
 
-  -- inside it: it does not
-  pub stopped : {t r : Bool} → r ≡ t → not r ≡ true → b ≡ pick t a b
-  stopped {t} {r} p h = at-false (sym p ∙ not-true r h)
+  pub stopped : {r : Bool} → r ≡ t → not r ≡ true → b ≡ pick t a b
+  stopped e h = at-false (denied e h)
+
+-- a call that was done passed its test
+pub done-passed : {A : Type 0} (t : Bool) (a : Answer A) (n : ℕ) {x : A} → pick t a (Refused n) ≡ Done x → (t ≡ true) × (a ≡ Done x)
+done-passed true a n e = (refl, e)
+done-passed false a n e = never (cc)

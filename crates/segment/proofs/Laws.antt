@@ -11,7 +11,7 @@ use lib.Signed.{mag}
 use mir.Syntax.{w64}
 use mir.Val.{SFits, toZ, ofZ}
 use mir.Facts.{toZ-ofZ}
-use borrow.Author.Tests.{leb-true, eqb-true, le-leb, lt-leb, eq-eqb, ne-eqb, not-true, not-false}
+use borrow.Author.Tests.{leb-true, eqb-true, le-leb, eq-eqb, ne-eqb, not-true, not-false}
 use Rattle.refusals.specs.Answer.{Answer, Done, Refused, ifDone}
 use Rattle.refusals.specs.Memory.{over}
 use Rattle.refusals.specs.Table.{argument}
@@ -22,21 +22,13 @@ use Rattle.segment.specs.Says.{left}
 
 -- ---- tests
 
-both : (a b : Bool) → a && b ≡ true → (a ≡ true) × (b ≡ true)
+pub both : (a b : Bool) → a && b ≡ true → (a ≡ true) × (b ≡ true)
 both true b h = (refl, h)
 both false b h = absurd (false≢true h)
 
 untrue : (b : Bool) → (b ≡ true → ⊥) → false ≡ b
 untrue true h = absurd (h refl)
 untrue false h = refl
-
--- two tests that hold together are one
-same-test : (a b c d : ℕ) → (a ≤ b → c ≤ d) → (c ≤ d → a ≤ b) → leb a b ≡ leb c d
-same-test a b c d f g = go (leb a b) refl
-  where
-    go : (t : Bool) → leb a b ≡ t → t ≡ leb c d
-    go true e = sym (le-leb _ _ (f (leb-true _ _ e)))
-    go false e = untrue (leb c d) (λ h. false≢true (sym e ∙ le-leb _ _ (g (leb-true _ _ h))))
 
 -- ---- sound
 
@@ -61,6 +53,10 @@ sound-has p h =
       start = leb-true _ _ (b .1);
       end = leb-true _ _ (a .1);
     }
+
+pub sound-is : (p : Pen) → Sound p → sound p ≡ true
+unfolding sound
+sound-is p s = simp (le-leb _ _ (s .place), le-leb _ _ (s .initial), le-leb _ _ (s .target), le-leb _ _ (s .start), le-leb _ _ (s .end))
 
 -- where all else is right, the range's end decides
 pub sound-by-end : (p : Pen) → p .place ≤ 65536 → p .initial ≤ 65536 → p .target ≤ 65536 → p .start ≤ p .end → leb (p .end) 65536 ≡ sound p
@@ -96,23 +92,20 @@ new-is i t h k e = simp (le-leb _ _ h, le-leb _ _ k) (ap Done e)
 
 -- ---- room
 
--- at a place inside the image, n bytes fit where n is at most what is left
-pub fits-by : (p : Pen) (n : ℕ) → p .place < 65536 → leb n (65536 - p .place) ≡ fits p n
+-- at a place inside the image, the bytes' end decides
+pub fits-by-end : (p : Pen) (n : ℕ) → p .place ≤ 65535 → leb (p .place + n) 65536 ≡ fits p n
 unfolding fits
-fits-by p n h =
-    let a : p .place ≤ 65535 = omega arith in
-    simp (le-leb _ _ a) (same-test n (65536 - p .place) (p .place + n) 65536 (λ l. omega arith) (λ l. omega arith))
+fits-by-end p n h = simp (le-leb _ _ h)
 
-pub fits-not : (p : Pen) (n : ℕ) → 65536 ≤ p .place → false ≡ fits p n
+-- an accepted emit begins and ends inside the image
+pub fits-has : (p : Pen) (n : ℕ) → fits p n ≡ true → (p .place ≤ 65535) × (p .place + n ≤ 65536)
 unfolding fits
-fits-not p n h =
-    let a : 65535 < p .place = omega arith in
-    simp (lt-leb _ _ a)
+fits-has p n h =
+    let a = both (leb (p .place) 65535) (leb (p .place + n) 65536) h in
+    (leb-true _ _ (a .0), leb-true _ _ (a .1))
 
--- the bytes of an accepted emit end inside the image
-pub fits-has : (p : Pen) (n : ℕ) → fits p n ≡ true → p .place + n ≤ 65536
-unfolding fits
-fits-has p n h = leb-true _ _ (both (leb (p .place) 65535) (leb (p .place + n) 65536) h .1)
+pub fits-not : (p : Pen) (n : ℕ) → (p .place ≤ 65535 → p .place + n ≤ 65536 → ⊥) → false ≡ fits p n
+fits-not p n h = untrue (fits p n) (λ e. let a = fits-has p n e in h (a .0) (a .1))
 
 -- ---- the range
 

@@ -206,11 +206,13 @@ impl Pen {
     fn has_room(self, count: usize) -> bool
         ensures { λ r. ⌜ r ≡ fits self count ⌝ }
     {
-        let place = self.place;
-        if SIZE <= place {
+        if SIZE <= self.place {
             return false;
         }
-        count <= SIZE - place
+        if SIZE < count {
+            return false;
+        }
+        self.place + count <= SIZE
     }
 
     // The pen behind so many bytes that it wrote.

@@ -1,11 +1,10 @@
 -- `Pen::emit` meets its contract: what is refused leaves pen and image; what is done is what `draw` and `behind` give. Assumes nothing.
-use mathlib.Core.Path.{ap, _∙_, sym}
+use mathlib.Core.Path.{ap, _∙_}
 use Rattle.refusals.specs.Answer.{Done}
 use native.Mathlib.Omega.{arith}
 use borrow.Author.Needs.{needs}
-use borrow.Author.Tests.{not-false}
 use Rattle.segment.proofs.Laws.{sound-over-has, fits-has, emit-refused, emit-done}
-use Rattle.refusals.proofs.Pick.{passed, stopped}
+use Rattle.refusals.proofs.Pick.{granted, passed, stopped}
 use Rattle.segment.specs.Segment.{ofBoth, emit}
 use Rattle.segment.proofs.Pen.emit.Statement.{statement}
 use Rattle.segment.proofs.Pen.emit.Tie as tie
@@ -35,14 +34,14 @@ returns-2 c =
 draw-requires : tie.Need-draw-requires
 draw-requires c κs =
     let tried = c .before .before in
-    let over = sound-over-has _ _ (sym (tried .before .before .is-sound-over .ensures) ∙ not-false _ (tried .before .if1 .left)) in
-    let room = fits-has _ _ (sym (tried .has-room .ensures) ∙ not-false _ (c .before .if2 .left)) in
+    let over = sound-over-has _ _ (granted (tried .before .before .is-sound-over .ensures) (tried .before .if1 .left)) in
+    let room = fits-has _ _ (granted (tried .has-room .ensures) (c .before .if2 .left)) in
     omega arith
 
 behind-requires : tie.Need-behind-requires
 behind-requires c κs =
     let chosen = c .before .before .before .before in
-    fits-has _ _ (sym (chosen .before .has-room .ensures) ∙ not-false _ (chosen .if2 .left))
+    fits-has _ _ (granted (chosen .before .has-room .ensures) (chosen .if2 .left)) .1
 
 moved-requires : tie.Need-moved-requires
 moved-requires c κs = search needs

@@ -1,10 +1,9 @@
 -- `Pen::range_data` meets its contract: a sound pen's range lies in the image. Assumes nothing.
-use mathlib.Core.Path.{ap, _∙_, sym}
+use mathlib.Core.Path.{ap}
 use native.Mathlib.Omega.{arith}
 use borrow.Author.Needs.{needs}
-use borrow.Author.Tests.{not-false}
 use Rattle.segment.proofs.Laws.{sound-over-has, part-none, part-covered}
-use Rattle.refusals.proofs.Pick.{stopped}
+use Rattle.refusals.proofs.Pick.{granted, stopped}
 use Rattle.segment.specs.Segment.{ofBoth, rangeData, partOf}
 use Rattle.segment.proofs.Pen.range_data.Statement.{statement}
 use Rattle.segment.proofs.Pen.range_data.Tie as tie
@@ -38,13 +37,13 @@ returns-2 : tie.Need-returns-2
 returns-2 c = part-none _ _ (c .before .before .before .before .is-sound-over .ensures) (c .before .before .before .if1 .left) (c .before .if2 .taken)
 
 sub-result-3 : tie.Need-sub-result-3
-sub-result-3 c = let s = sound-over-has _ _ (sym (c .before .before .before .is-sound-over .ensures) ∙ not-false _ (c .before .before .if1 .left)) in omega arith
+sub-result-3 c = let s = sound-over-has _ _ (granted (c .before .before .before .is-sound-over .ensures) (c .before .before .if1 .left)) in omega arith
 
 part-result-start-3 : tie.Need-part-result-start-3
-part-result-start-3 c = let s = sound-over-has _ _ (sym (c .before .before .before .is-sound-over .ensures) ∙ not-false _ (c .before .before .if1 .left)) in omega arith
+part-result-start-3 c = let s = sound-over-has _ _ (granted (c .before .before .before .is-sound-over .ensures) (c .before .before .if1 .left)) in omega arith
 
 part-result-end-3 : tie.Need-part-result-end-3
-part-result-end-3 c = let s = sound-over-has _ _ (sym (c .before .before .before .is-sound-over .ensures) ∙ not-false _ (c .before .before .if1 .left)) in omega arith
+part-result-end-3 c = let s = sound-over-has _ _ (granted (c .before .before .before .is-sound-over .ensures) (c .before .before .if1 .left)) in omega arith
 
 returns-3 : tie.Need-returns-3
 returns-3 c = part-covered _ _ (c .before .before .before .before .is-sound-over .ensures) (c .before .before .before .if1 .left) (c .before .if2 .left)

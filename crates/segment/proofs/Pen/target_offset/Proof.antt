@@ -1,12 +1,11 @@
 -- `Pen::target_offset` meets its contract. Assumes nothing.
-use mathlib.Core.Path.{ap, _∙_, sym}
+use mathlib.Core.Path.{ap, _∙_}
 use mir.Facts.{toZ-ofZ}
 use Rattle.refusals.specs.Answer.{Done}
 use native.Mathlib.Omega.{arith}
 use borrow.Author.Needs.{needs}
-use borrow.Author.Tests.{not-false}
 use Rattle.segment.proofs.Laws.{sound-has}
-use Rattle.refusals.proofs.Pick.{passed, stopped}
+use Rattle.refusals.proofs.Pick.{granted, passed, stopped}
 use Rattle.segment.specs.Segment.{ofPen, targetOffset}
 use Rattle.segment.proofs.Pen.target_offset.Statement.{statement}
 use Rattle.segment.proofs.Pen.target_offset.Tie as tie
@@ -19,7 +18,7 @@ unfolding targetOffset ofPen
 returns c = stopped _ _ (c .before .is-sound .ensures) (c .if1 .taken)
 
 difference-requires : tie.Need-difference-requires
-difference-requires c κs = let s = sound-has _ (sym (c .before .is-sound .ensures) ∙ not-false _ (c .if1 .left)) in (omega arith, omega arith)
+difference-requires c κs = let s = sound-has _ (granted (c .before .is-sound .ensures) (c .if1 .left)) in (omega arith, omega arith)
 
 returns-2 : tie.Need-returns-2
 unfolding targetOffset ofPen

@@ -1,12 +1,11 @@
 -- `Pen::target_pc` meets its contract: a sound pen's places are small, so that their sum is. Assumes nothing.
-use mathlib.Core.Path.{ap, _∙_, sym}
+use mathlib.Core.Path.{ap, _∙_}
 use mir.Facts.{toZ-ofZ}
 use Rattle.refusals.specs.Answer.{Done}
 use native.Mathlib.Omega.{arith}
 use borrow.Author.Needs.{needs}
-use borrow.Author.Tests.{not-false}
 use Rattle.segment.proofs.Laws.{sound-has}
-use Rattle.refusals.proofs.Pick.{passed, stopped}
+use Rattle.refusals.proofs.Pick.{granted, passed, stopped}
 use Rattle.segment.specs.Segment.{ofPen, targetPc}
 use Rattle.segment.proofs.Pen.target_pc.Statement.{statement}
 use Rattle.segment.proofs.Pen.target_pc.Tie as tie
@@ -19,10 +18,10 @@ unfolding targetPc ofPen
 returns c = stopped _ _ (c .before .is-sound .ensures) (c .if1 .taken)
 
 add-difference : tie.Need-add-difference
-add-difference c = let s = sound-has _ (sym (c .before .before .is-sound .ensures) ∙ not-false _ (c .before .if1 .left)) in record { fits = omega arith }
+add-difference c = let s = sound-has _ (granted (c .before .before .is-sound .ensures) (c .before .if1 .left)) in record { fits = omega arith }
 
 difference-requires : tie.Need-difference-requires
-difference-requires c κs = let s = sound-has _ (sym (c .before .before .is-sound .ensures) ∙ not-false _ (c .before .if1 .left)) in (omega arith, omega arith)
+difference-requires c κs = let s = sound-has _ (granted (c .before .before .is-sound .ensures) (c .before .if1 .left)) in (omega arith, omega arith)
 
 returns-2 : tie.Need-returns-2
 unfolding targetPc ofPen

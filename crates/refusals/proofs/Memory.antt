@@ -1,0 +1,58 @@
+-- What it means to write over a part of lent memory. Assumes nothing.
+use mathlib.Core.Path.{_≡_, sym, ap, _∙_}
+use mathlib.Core.List.{List, [], _++_, append-assoc, append-nil}
+use Prim.Native.Nat.{ℕ, _+_, _-_, _≤_}
+use native.Mathlib.Omega.{arith}
+use lib.ListN.{length, take, drop, getD, length-append, length-drop, take-append-drop}
+use lib.Seq.{take-at, drop-at, drop-drop, getD-drop, length-take-le}
+use Rattle.refusals.specs.Memory.{over}
+
+module _ (m : List ℕ) (at : ℕ) where
+  -- nothing is written
+  pub over-nothing : m ≡ over m at []
+  unfolding over
+  over-nothing =
+      let e : at + 0 ≡ at = omega arith in
+      sym (ap (λ (k : ℕ). take at m ++ [] ++ drop k m) e ∙ ap (λ (l : List ℕ). l ++ drop at m) (append-nil (take at m)) ∙ take-append-drop at m)
+
+  module _ (xs : List ℕ) (room : at + length xs ≤ length m) where
+    -- what was written, with what is before it
+    length-head : length (take at m ++ xs) ≡ at + length xs
+    length-head = length-append (take at m) xs ∙ ap (λ (k : ℕ). k + length xs) (length-take-le at m (omega arith))
+
+    take-over : take (at + length xs) (over m at xs) ≡ take at m ++ xs
+    unfolding over
+    take-over = take-at (take at m ++ xs) (drop (at + length xs) m) (at + length xs) length-head
+
+    pub drop-over : drop (at + length xs) (over m at xs) ≡ drop (at + length xs) m
+    unfolding over
+    drop-over = drop-at (take at m ++ xs) (drop (at + length xs) m) (at + length xs) length-head
+
+    -- the memory is as long as it was
+    pub length-over : length (over m at xs) ≡ length m
+    unfolding over
+    length-over =
+        length-append (take at m ++ xs) (drop (at + length xs) m)
+        ∙ (λ i. length-head i + length-drop (at + length xs) m i)
+        ∙ omega arith
+
+    -- behind it, all is as it was
+    pub getD-over : (k : ℕ) → at + length xs ≤ k → getD (over m at xs) k 0 ≡ getD m k 0
+    getD-over k h =
+        let e : at + length xs + (k - (at + length xs)) ≡ k = omega arith in
+        ap (λ (n : ℕ). getD (over m at xs) n 0) (sym e)
+        ∙ sym (getD-drop (at + length xs) (over m at xs) (k - (at + length xs)) 0)
+        ∙ ap (λ (l : List ℕ). getD l (k - (at + length xs)) 0) drop-over
+        ∙ getD-drop (at + length xs) m (k - (at + length xs)) 0
+        ∙ ap (λ (n : ℕ). getD m n 0) e
+
+    -- what is written behind it is one writing with it
+    pub over-over : (ys : List ℕ) → over (over m at xs) (at + length xs) ys ≡ over m at (xs ++ ys)
+    unfolding over
+    over-over ys =
+        let n : ℕ = at + length xs in
+        let e : n + length ys ≡ at + length (xs ++ ys) = omega (arith, length-append xs ys) in
+        (λ i. take-over i ++ ys ++ drop (n + length ys) (over m at xs))
+        ∙ ap (λ (l : List ℕ). take at m ++ xs ++ ys ++ l) (sym (drop-drop (length ys) n (over m at xs)) ∙ ap (drop (length ys)) drop-over ∙ drop-drop (length ys) n m)
+        ∙ ap (λ (l : List ℕ). l ++ drop (n + length ys) m) (append-assoc (take at m) xs ys)
+        ∙ ap (λ (k : ℕ). take at m ++ (xs ++ ys) ++ drop k m) e
