@@ -6,7 +6,11 @@ mod decode;
 mod evaluator;
 mod opcodes;
 mod program_counter;
+mod segment;
+mod source_map;
 mod text_encoding;
+
+use crate::random::Random;
 
 /// Answers one question with the text of a line. It may keep what earlier questions left behind.
 pub type Answerer = Box<dyn FnMut(&[u8]) -> String>;
@@ -32,6 +36,8 @@ pub fn all() -> Vec<Kind> {
         branch::kind(),
         evaluator::kind(),
         program_counter::kind(),
+        segment::kind(),
+        source_map::kind(),
         text_encoding::kind(),
     ]
 }
@@ -41,8 +47,23 @@ fn number_at(question: &[u8], offset: usize) -> u64 {
     u64::from_le_bytes(question[offset..offset + 8].try_into().unwrap())
 }
 
+// The little-endian number in the four bytes from an offset on.
+fn short_at(question: &[u8], offset: usize) -> u32 {
+    u32::from_le_bytes(question[offset..offset + 4].try_into().unwrap())
+}
+
 // Bytes as capital hexadecimal digits, with a space between two bytes.
 fn hex(bytes: &[u8]) -> String {
     let digits: Vec<String> = bytes.iter().map(|byte| format!("{byte:02X}")).collect();
     digits.join(" ")
+}
+
+// A random number from low to high, both among them.
+fn any(source: &mut Random, low: u32, high: u32) -> u32 {
+    source.between(low.into(), high.into()) as u32
+}
+
+// A random one of some things.
+fn one_of<T: Copy>(source: &mut Random, things: &[T]) -> T {
+    things[any(source, 0, things.len() as u32 - 1) as usize]
 }
