@@ -22,6 +22,9 @@ pub const WORDS: usize = 16385;
 // How many entries a map holds.
 pub const CAPACITY: usize = 4096;
 
+// How many words an entry has.
+const WIDTH: usize = 4;
+
 // The greatest scope.
 const LAST_SCOPE: u32 = 1023;
 
@@ -223,7 +226,7 @@ fn read_entry(map: &[u32], i: usize) -> Entry
     requires { ⌜ 5 + 4 * i ≤ length (now map) ⌝ }
     ensures { λ r. ⌜ r ≡ entryAt (now (map .entry)) i ⌝ }
 {
-    let at = 1 + 4 * i;
+    let at = 1 + WIDTH * i;
     Entry {
         scope: map[at],
         span: map[at + 1],
@@ -237,7 +240,7 @@ fn write_entry(map: &mut [u32], i: usize, offset: Entry)
     requires { ⌜ 5 + 4 * i ≤ length (now map) ⌝ }
     ensures { λ _. ⌜ now (map .exit) ≡ over (now (map .entry)) (1 + 4 * i) (wordsOf offset) ⌝ }
 {
-    let at = 1 + 4 * i;
+    let at = 1 + WIDTH * i;
     map[at] = offset.scope;
     map[at + 1] = offset.span;
     map[at + 2] = offset.pc;
