@@ -14,6 +14,7 @@ use source_map::Entry;
 use source_map::Found;
 use source_map::OneEntry;
 
+// Asks everything.
 fn main() {
     pens();
     bad_pens();
@@ -31,6 +32,7 @@ fn print(question: &[u8], number: u8) {
     io::write_all(STDOUT_FILENO, b"\n");
 }
 
+// The number of an outcome.
 fn of_outcome(answer: Outcome) -> u8 {
     match answer {
         Outcome::Done => 0,
@@ -38,11 +40,13 @@ fn of_outcome(answer: Outcome) -> u8 {
     }
 }
 
+// The number of an answer with a pen.
 fn of_drawn(drawn: Drawn) -> u8 {
     let answer = drawn.answer;
     of_outcome(answer)
 }
 
+// The number of a new pen.
 fn of_new(answer: NewPen) -> u8 {
     match answer {
         NewPen::Is(_) => 0,
@@ -50,6 +54,7 @@ fn of_new(answer: NewPen) -> u8 {
     }
 }
 
+// The number of a place.
 fn of_place(answer: Place) -> u8 {
     match answer {
         Place::At(_) => 0,
@@ -57,6 +62,7 @@ fn of_place(answer: Place) -> u8 {
     }
 }
 
+// The number of a range.
 fn of_range(answer: Extent) -> u8 {
     match answer {
         Extent::Is(_) => 0,
@@ -64,6 +70,7 @@ fn of_range(answer: Extent) -> u8 {
     }
 }
 
+// The number of a signed number.
 fn of_number(answer: Number) -> u8 {
     match answer {
         Number::Is(_) => 0,
@@ -71,6 +78,7 @@ fn of_number(answer: Number) -> u8 {
     }
 }
 
+// The number of a count.
 fn of_count(answer: Count) -> u8 {
     match answer {
         Count::Is(_) => 0,
@@ -78,6 +86,7 @@ fn of_count(answer: Count) -> u8 {
     }
 }
 
+// The number of an entry.
 fn of_entry(answer: OneEntry) -> u8 {
     match answer {
         OneEntry::Is(_) => 0,
@@ -85,6 +94,7 @@ fn of_entry(answer: OneEntry) -> u8 {
     }
 }
 
+// The number of what was found.
 fn of_found(answer: Found) -> u8 {
     match answer {
         Found::Offset(_) => 0,

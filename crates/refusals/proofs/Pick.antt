@@ -1,6 +1,6 @@
 -- What a function's answer says of the test that it tells, and which side `pick` takes then. Assumes nothing.
 use mathlib.Core.Bool.{Bool, true, false, not}
-use mathlib.Core.Path.{_≡_, refl, sym, _∙_}
+use mathlib.Core.Path.{_≡_, refl, sym, ap, _∙_}
 use Prim.Native.Nat.{ℕ}
 use borrow.Author.Tests.{not-true, not-false}
 use Rattle.refusals.specs.Answer.{Answer, Done, Refused, pick}
@@ -31,7 +31,17 @@ module _ {A : Type 0} (a b : A) {t : Bool} where
   pub stopped : {r : Bool} → r ≡ t → not r ≡ true → b ≡ pick t a b
   stopped e h = at-false (denied e h)
 
+-- ---- what was done
+
 -- a call that was done passed its test
 pub done-passed : {A : Type 0} (t : Bool) (a : Answer A) (n : ℕ) {x : A} → pick t a (Refused n) ≡ Done x → (t ≡ true) × (a ≡ Done x)
 done-passed true a n e = (refl, e)
 done-passed false a n e = never (cc)
+
+abbrev valueOr : {A : Type 0} → A → Answer A → A
+valueOr b (Done a) = a
+valueOr b (Refused n) = b
+
+-- and its value is one
+pub done-value : {A : Type 0} {a b : A} → Done a ≡ Done b → a ≡ b
+done-value {a = a} e = ap (valueOr a) e

@@ -1,7 +1,7 @@
 -- What a build that begins with `new` may rely on: a pen that a call gives is sound, and an image keeps its length.
 -- Assumes nothing.
 use mathlib.Core.Bool.{Bool, true, false, _&&_}
-use mathlib.Core.Path.{_≡_, refl, ap, _∙_, subst}
+use mathlib.Core.Path.{_≡_, refl, _∙_, subst}
 use mathlib.Core.List.{List}
 use Prim.Native.Nat.{ℕ, _+_, _≤_}
 use native.Mathlib.Omega.{arith}
@@ -12,20 +12,12 @@ use Rattle.refusals.specs.Answer.{Answer, Done, Refused, ifDone}
 use Rattle.refusals.specs.Table.{argument, outside}
 use Rattle.refusals.specs.Memory.{over}
 use Rattle.refusals.proofs.Memory.{length-over}
-use Rattle.refusals.proofs.Pick.{done-passed}
+use Rattle.refusals.proofs.Pick.{done-passed, done-value}
 use Rattle.segment.specs.declared.Pen.{Pen}
 use Rattle.segment.specs.Segment.{size, sound, soundOver, ofPen, ofBoth, begun, new, reset, setPc, fits, widened, ground, emit, imageAfter}
-use Rattle.segment.proofs.Laws.{both, Sound, sound-has, sound-is, sound-over-has, fits-has}
+use Rattle.segment.proofs.Laws.{new-has, Sound, sound-has, sound-is, sound-over-has, fits-has}
 
 -- ---- pens
-
-abbrev given : Pen → Answer Pen → Pen
-given p (Done q) = q
-given p (Refused n) = p
-
--- the pen that an answer holds is the one it was made with
-is-given : {p q : Pen} → Done p ≡ Done q → p ≡ q
-is-given {p} {q} e = ap (given p) e
 
 begun-sound : (i t : ℕ) → i ≤ 65536 → t ≤ 65536 → sound (begun i t) ≡ true
 unfolding begun
@@ -44,15 +36,15 @@ pub new-sound : (i t : ℕ) {q : Pen} → new i t ≡ Done q → sound q ≡ tru
 unfolding new
 new-sound i t e =
     let a = done-passed (leb i size && leb t size) (Done (begun i t)) argument e in
-    let b = both (leb i size) (leb t size) (a .0) in
-    subst (λ (p : Pen). sound p ≡ true) (is-given (a .1)) (begun-sound i t (leb-true _ _ (b .0)) (leb-true _ _ (b .1)))
+    let b = new-has i t (a .0) in
+    subst (λ (p : Pen). sound p ≡ true) (done-value (a .1)) (begun-sound i t (b .0) (b .1))
 
 pub reset-sound : (p : Pen) {q : Pen} → reset p ≡ Done q → sound q ≡ true
 unfolding reset ofPen
 reset-sound p e =
     let a = done-passed (sound p) (Done (begun (p .initial) (p .target))) argument e in
     let s = sound-has p (a .0) in
-    subst (λ (p : Pen). sound p ≡ true) (is-given (a .1)) (begun-sound _ _ (s .initial) (s .target))
+    subst (λ (p : Pen). sound p ≡ true) (done-value (a .1)) (begun-sound _ _ (s .initial) (s .target))
 
 pub set-pc-sound : (p : Pen) (at : ℕ) {q : Pen} → setPc p at ≡ Done q → sound q ≡ true
 unfolding setPc ofPen
@@ -60,7 +52,7 @@ set-pc-sound p at e =
     let a = done-passed (sound p) _ argument e in
     let b = done-passed (leb at size) _ argument (a .1) in
     let s = sound-has p (a .0) in
-    subst (λ (p : Pen). sound p ≡ true) (is-given (b .1))
+    subst (λ (p : Pen). sound p ≡ true) (done-value (b .1))
     (sound-is _ (record { place = leb-true _ _ (b .0); initial = s .initial; target = s .target; start = s .start; end = s .end }))
 
 -- what an accepted emit had, and what it gives
@@ -71,7 +63,7 @@ emit-has p image bytes e =
     let a = done-passed (soundOver p (length image)) _ argument e in
     let b = done-passed (fits p (length bytes)) (Done (widened p (length bytes))) outside (a .1) in
     let s = sound-over-has p (length image) (a .0) in
-    (s .0, s .1, fits-has p (length bytes) (b .0) .1, is-given (b .1))
+    (s .0, s .1, fits-has p (length bytes) (b .0) .1, done-value (b .1))
 
 pub emit-sound : (p : Pen) (image bytes : List ℕ) {q : Pen} → emit p image bytes ≡ Done q → sound q ≡ true
 emit-sound p image bytes e =

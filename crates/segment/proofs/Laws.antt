@@ -1,5 +1,5 @@
--- What a sound pen has, what an emit's room is, and the lists of a clearing and of a copy. Assumes nothing.
-use mathlib.Core.Bool.{Bool, true, false, not, _&&_, cond, false≢true}
+-- What a sound pen has, what room an emit has, and what the calls make of pens and images. Assumes nothing.
+use mathlib.Core.Bool.{Bool, true, false, not, _&&_, cond, and-eq-true-iff, not-eq-not}
 use mathlib.Core.Path.{_≡_, refl, sym, ap, _∙_}
 use mathlib.Core.List.{List, [], _∷_, _++_}
 use Prim.Native.Nat.{ℕ, zero, suc, _+_, _-_, _^_, _<_, _≤_, min, max}
@@ -20,16 +20,6 @@ use Rattle.segment.specs.declared.Pen.{Pen}
 use Rattle.segment.specs.Segment.{size, begun, new, sound, soundOver, fits, widened, ofBoth, rangeData, partOf, ground, emit, imageAfter}
 use Rattle.segment.specs.Says.{left}
 
--- ---- tests
-
-pub both : (a b : Bool) → a && b ≡ true → (a ≡ true) × (b ≡ true)
-both true b h = (refl, h)
-both false b h = absurd (false≢true h)
-
-untrue : (b : Bool) → (b ≡ true → ⊥) → false ≡ b
-untrue true h = absurd (h refl)
-untrue false h = refl
-
 -- ---- sound
 
 pub record Sound (p : Pen) : Type 0 where
@@ -42,10 +32,10 @@ pub record Sound (p : Pen) : Type 0 where
 pub sound-has : (p : Pen) → sound p ≡ true → Sound p
 unfolding sound
 sound-has p h =
-    let a = both _ _ h in
-    let b = both _ _ (a .0) in
-    let c = both _ _ (b .0) in
-    let d = both _ _ (c .0) in
+    let a = and-eq-true-iff _ _ .0 h in
+    let b = and-eq-true-iff _ _ .0 (a .0) in
+    let c = and-eq-true-iff _ _ .0 (b .0) in
+    let d = and-eq-true-iff _ _ .0 (c .0) in
     record {
       place = leb-true _ _ (d .0);
       initial = leb-true _ _ (d .1);
@@ -64,12 +54,12 @@ unfolding sound
 sound-by-end p a b c d = simp (le-leb _ _ a, le-leb _ _ b, le-leb _ _ c, le-leb _ _ d)
 
 pub sound-not : (p : Pen) → (Sound p → ⊥) → false ≡ sound p
-sound-not p h = untrue (sound p) (λ e. h (sound-has p e))
+sound-not p h = sym (not-eq-not {b = false} .0 (λ e. h (sound-has p e)))
 
 pub sound-over-has : (p : Pen) (n : ℕ) → soundOver p n ≡ true → (n ≡ 65536) × Sound p
 unfolding soundOver
 sound-over-has p n h =
-    let a = both _ _ h in
+    let a = and-eq-true-iff _ _ .0 h in
     (eqb-true _ _ (a .0), sound-has p (a .1))
 
 pub over-not : (p : Pen) (n : ℕ) → (n ≡ 65536 → ⊥) → false ≡ soundOver p n
@@ -82,9 +72,14 @@ over-by p n h = simp (eq-eqb _ _ h)
 
 -- ---- new
 
+pub new-has : (i t : ℕ) → leb i size && leb t size ≡ true → (i ≤ 65536) × (t ≤ 65536)
+new-has i t h =
+    let a = and-eq-true-iff (leb i size) (leb t size) .0 h in
+    (leb-true _ _ (a .0), leb-true _ _ (a .1))
+
 pub new-not : (i t : ℕ) → (i ≤ 65536 → t ≤ 65536 → ⊥) → Refused argument ≡ new i t
 unfolding new
-new-not i t h = at-false _ _ (sym (untrue (leb i size && leb t size) (λ e. let b = both (leb i size) (leb t size) e in h (leb-true _ _ (b .0)) (leb-true _ _ (b .1)))))
+new-not i t h = at-false _ _ (not-eq-not {b = false} .0 (λ e. let a = new-has i t e in h (a .0) (a .1)))
 
 pub new-is : (i t : ℕ) → i ≤ 65536 → t ≤ 65536 → {q : Pen} → q ≡ begun i t → Done q ≡ new i t
 unfolding new
@@ -101,11 +96,11 @@ fits-by-end p n h = simp (le-leb _ _ h)
 pub fits-has : (p : Pen) (n : ℕ) → fits p n ≡ true → (p .place ≤ 65535) × (p .place + n ≤ 65536)
 unfolding fits
 fits-has p n h =
-    let a = both (leb (p .place) 65535) (leb (p .place + n) 65536) h in
+    let a = and-eq-true-iff (leb (p .place) 65535) (leb (p .place + n) 65536) .0 h in
     (leb-true _ _ (a .0), leb-true _ _ (a .1))
 
 pub fits-not : (p : Pen) (n : ℕ) → (p .place ≤ 65535 → p .place + n ≤ 65536 → ⊥) → false ≡ fits p n
-fits-not p n h = untrue (fits p n) (λ e. let a = fits-has p n e in h (a .0) (a .1))
+fits-not p n h = sym (not-eq-not {b = false} .0 (λ e. let a = fits-has p n e in h (a .0) (a .1)))
 
 -- ---- the range
 

@@ -284,12 +284,14 @@ fn difference(a: usize, b: usize) -> i64
     a as i64 - b as i64
 }
 
+// The lesser of two numbers.
 fn lesser(a: usize, b: usize) -> usize
     ensures { λ r. ⌜ r ≡ min a b ⌝ }
 {
     if a < b { a } else { b }
 }
 
+// The greater of two numbers.
 fn greater(a: usize, b: usize) -> usize
     ensures { λ r. ⌜ r ≡ max a b ⌝ }
 {

@@ -8,10 +8,10 @@ use lib.Dec.{eqb, leb, ltb}
 use lib.ListN.{length, getD, drop, length-append, length-map}
 use lib.Seq.{getD-append-add}
 use borrow.Author.Tests.{le-leb, leb-true, ltb-true, eq-eqb}
-use Rattle.refusals.specs.Answer.{Answer, Done, Refused, pick}
+use Rattle.refusals.specs.Answer.{Done, pick}
 use Rattle.refusals.specs.Table.{argument, noRoom}
 use Rattle.refusals.specs.Memory.{over}
-use Rattle.refusals.proofs.Pick.{done-passed}
+use Rattle.refusals.proofs.Pick.{done-passed, done-value}
 use Rattle.refusals.proofs.Memory.{length-over}
 use Rattle.source_map.specs.declared.Entry.{Entry}
 use Rattle.source_map.specs.Entry.{inRange, moved, wordsOf, entryAt}
@@ -94,19 +94,12 @@ has m h =
 keeps : (m : List ℕ) (es : List Entry) → length m ≡ 16385 → length es ≤ 4096 → allInRange es ≡ true → Kept m es
 keeps m es size room good = (stored-sound m size es room good, entries-stored m size es room)
 
-given : {es fs : List Entry} → Done es ≡ Done fs → es ≡ fs
-given {es} e = ap entriesOf e
-  where
-    entriesOf : Answer (List Entry) → List Entry
-    entriesOf (Done fs) = fs
-    entriesOf (Refused n) = es
-
 pub clear-kept : (m : List ℕ) {es : List Entry} → clear m ≡ Done es → Kept m es
 unfolding clear ofMap
 clear-kept m e =
     let a = done-passed (sound m) (Done []) argument e in
     let h = has m (a .0) in
-    subst (Kept m) (given (a .1)) (keeps m [] (h .0) (omega arith) refl)
+    subst (Kept m) (done-value (a .1)) (keeps m [] (h .0) (omega arith) refl)
 
 pub add-kept : (m : List ℕ) (e : Entry) {es : List Entry} → add m e ≡ Done es → Kept m es
 unfolding add ofMap
@@ -117,7 +110,7 @@ add-kept m e f =
     let h = has m (a .0) in
     let below : countIn m < 4096 = ltb-true _ _ (c .0) in
     let number = length-append (entries m) (e ∷ []) in
-    subst (Kept m) (given (c .1)) (keeps m (entries m ++ e ∷ []) (h .0) (omega arith) (in-range-append (entries m) (e ∷ []) (h .3) (λ i. b .0 i && true)))
+    subst (Kept m) (done-value (c .1)) (keeps m (entries m ++ e ∷ []) (h .0) (omega arith) (in-range-append (entries m) (e ∷ []) (h .3) (λ i. b .0 i && true)))
 
 pub move-offsets-kept : (m : List ℕ) (from to span : ℕ) {es : List Entry} → moveOffsets m from to span ≡ Done es → Kept m es
 unfolding moveOffsets ofMap
@@ -127,5 +120,5 @@ move-offsets-kept m from to span f =
     let scopes = and-eq-true-iff (leb from 1023) (leb to 1023) .0 (b .0) in
     let h = has m (a .0) in
     let number = length-map (entries m) (moved from to span) in
-    subst (Kept m) (given (b .1))
+    subst (Kept m) (done-value (b .1))
     (keeps m (movedAll from to span (entries m)) (h .0) (omega arith) (all-moved-in-range from to span (leb-true _ _ (scopes .1)) (entries m) (h .3)))
