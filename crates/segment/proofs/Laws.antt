@@ -12,7 +12,7 @@ use mir.Syntax.{w64}
 use mir.Val.{SFits, toZ, ofZ}
 use mir.Facts.{toZ-ofZ}
 use borrow.Author.Tests.{leb-true, eqb-true, le-leb, eq-eqb, ne-eqb, not-true, not-false}
-use Rattle.refusals.specs.Answer.{Answer, Done, Refused, ifDone}
+use Rattle.refusals.specs.Answer.{Answer, Done, Refused}
 use Rattle.refusals.specs.Memory.{over}
 use Rattle.refusals.specs.Table.{argument}
 use Rattle.refusals.proofs.Pick.{at-true, at-false, passed}
@@ -185,9 +185,9 @@ module _ (p : Pen) (image bytes : List ℕ) {d : Pen × Answer (Unit {0})} where
   pub emit-refused : {n : ℕ} → d ≡ left p (Refused n) → Refused n ≡ emit p image bytes
       → (d ≡ left p (emit p image bytes)) × (image ≡ imageAfter p image bytes)
   unfolding imageAfter
-  emit-refused e f = (e ∙ ap (left p) f, ap (λ (a : Answer Pen). ifDone a (over (ground (p .emitted) image) (p .place) bytes) image) f)
+  emit-refused e f = (e ∙ ap (left p) f, simp (sym f))
 
   pub emit-done : {q : Pen} {after : List ℕ} → d ≡ left p (Done q) → Done q ≡ emit p image bytes → after ≡ over (ground (p .emitted) image) (p .place) bytes
       → (d ≡ left p (emit p image bytes)) × (after ≡ imageAfter p image bytes)
   unfolding imageAfter
-  emit-done e f g = (e ∙ ap (left p) f, g ∙ ap (λ (a : Answer Pen). ifDone a (over (ground (p .emitted) image) (p .place) bytes) image) f)
+  emit-done e f g = (e ∙ ap (left p) f, simp (sym f) g)
