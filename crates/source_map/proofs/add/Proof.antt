@@ -36,27 +36,41 @@ same-length-3 : tie.Need-same-length-3
 same-length-3 c = search needs
 
 returns-3 : tie.Need-returns-3
-returns-3 c = unchanged _ _ (add-full _ (granted (c .before .before .before .before .before .is-sound .ensures) (c .before .before .before .before .if1 .left)) _ (granted (c .before .before .before .is-in-range .ensures) (c .before .before .if2 .left)) (omega arith))
+returns-3 c =
+    let in-range = c .before .before in
+    let of-map = in-range .before .before in
+    let map = granted (of-map .before .is-sound .ensures) (of-map .if1 .left) in
+    unchanged _ _ (add-full _ map _ (granted (in-range .before .is-in-range .ensures) (in-range .if2 .left)) (omega arith))
 
 cast-write-entry : tie.Need-cast-write-entry
 cast-write-entry c = search needs
 
 write-entry-requires : tie.Need-write-entry-requires
-write-entry-requires c κs = let s = sound-shape _ (granted (c .before .before .before .before .before .before .is-sound .ensures) (c .before .before .before .before .before .if1 .left)) in omega arith
+write-entry-requires c κs =
+    let of-map = c .before .before .before .before .before in
+    let s = sound-shape _ (granted (of-map .before .is-sound .ensures) (of-map .if1 .left)) in
+    omega arith
 
 add-map : tie.Need-add-map
 add-map c = search needs
 
 slice-write-map : tie.Need-slice-write-map
-slice-write-map c = let s = sound-shape _ (granted (c .before .before .before .before .before .before .before .before .before .is-sound .ensures) (c .before .before .before .before .before .before .before .before .if1 .left)) in omega (arith, c .before .map .given)
+slice-write-map c =
+    let of-map = c .before .before .before .before .before .before .before .before in
+    let s = sound-shape _ (granted (of-map .before .is-sound .ensures) (of-map .if1 .left)) in
+    omega (arith, c .before .map .given)
 
 same-length-4 : tie.Need-same-length-4
 same-length-4 c = search needs
 
 returns-4 : tie.Need-returns-4
 returns-4 c =
-    let map = granted (c .before .before .before .before .before .before .before .before .before .is-sound .ensures) (c .before .before .before .before .before .before .before .before .if1 .left) in
-    changed _ _ (add-done _ map _ (granted (c .before .before .before .before .before .before .before .is-in-range .ensures) (c .before .before .before .before .before .before .if2 .left)) (omega arith)) (add-stored _ map _ (omega arith) (c .before .before .write-entry .ensures))
+    let in-range = c .before .before .before .before .before .before in
+    let of-map = in-range .before .before in
+    let map = granted (of-map .before .is-sound .ensures) (of-map .if1 .left) in
+    changed _ _
+    (add-done _ map _ (granted (in-range .before .is-in-range .ensures) (in-range .if2 .left)) (omega arith))
+    (add-stored _ map _ (omega arith) (c .before .before .write-entry .ensures))
 
 pub add-spec : {M : Type 1} → statement M
 add-spec =

@@ -57,7 +57,10 @@ loop-again c =
     let inv = c .before .before .before .before .before .loop .inv in (
       inv .0,
       omega arith,
-      looked-next _ _ _ _ _ _ (omega arith) (inv .1) (inv .2) (c .before .before .before .read-entry .ensures) (granted (c .before .before .is-in-range .ensures) (c .before .if2 .left)) (c .nearer .ensures),
+      looked-next _ _ _ _ _ _ (omega arith) (inv .1) (inv .2)
+          (c .before .before .before .read-entry .ensures)
+          (granted (c .before .before .is-in-range .ensures) (c .before .if2 .left))
+          (c .nearer .ensures),
     )
 
 read-entry-requires-2 : tie.Need-read-entry-requires-2 Inv-loop μ-loop

@@ -45,7 +45,10 @@ loop-again c =
     let s = shape _ (c .before .before .before .before .before .before .before .before .before .before .before .pre) in
     let inv = c .before .before .before .before .before .before .before .before .loop .inv in (
       omega arith,
-      move-next _ _ _ _ _ (omega arith) (inv .1) (c .before .before .before .before .before .read-entry .ensures) (c .before .before .before .renamed .ensures) (c .before .before .write-entry .ensures),
+      move-next _ _ _ _ _ (omega arith) (inv .1)
+          (c .before .before .before .before .before .read-entry .ensures)
+          (c .before .before .before .renamed .ensures)
+          (c .before .before .write-entry .ensures),
       c .before .map .given ∙ inv .2,
     )
 

@@ -36,7 +36,10 @@ same-length-4 : tie.Need-same-length-4
 same-length-4 c = search needs
 
 returns-4 : tie.Need-returns-4
-returns-4 c = changed _ _ (move-done _ (granted (c .before .before .before .before .before .before .before .is-sound .ensures) (c .before .before .before .before .before .before .if1 .left)) _ _ _ (omega arith) (omega arith)) (c .before .before .move-all .ensures)
+returns-4 c =
+    let of-map = c .before .before .before .before .before .before in
+    let map = granted (of-map .before .is-sound .ensures) (of-map .if1 .left) in
+    changed _ _ (move-done _ map _ _ _ (omega arith) (omega arith)) (c .before .before .move-all .ensures)
 
 pub move-offsets-spec : {M : Type 1} → statement M
 move-offsets-spec =

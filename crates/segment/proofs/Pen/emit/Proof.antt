@@ -29,7 +29,8 @@ returns-2 : tie.Need-returns-2
 unfolding emit ofBoth
 returns-2 c =
     let tried = c .before .before in
-    emit-refused _ _ _ (c .refused2 .ensures) (stopped _ _ (tried .has-room .ensures) (c .before .if2 .taken) ∙ passed _ _ (tried .before .before .is-sound-over .ensures) (tried .before .if1 .left))
+    emit-refused _ _ _ (c .refused2 .ensures)
+    (stopped _ _ (tried .has-room .ensures) (c .before .if2 .taken) ∙ passed _ _ (tried .before .before .is-sound-over .ensures) (tried .before .if1 .left))
 
 draw-requires : tie.Need-draw-requires
 draw-requires c κs =
@@ -56,7 +57,9 @@ returns-3 c =
     let chosen = drawn .before .before in
     let tried = chosen .before in
     emit-done _ _ _ (c .moved .ensures)
-    (ap Done (c .before .behind .ensures) ∙ passed _ _ (tried .has-room .ensures) (chosen .if2 .left) ∙ passed _ _ (tried .before .before .is-sound-over .ensures) (tried .before .if1 .left))
+    (ap Done (c .before .behind .ensures)
+    ∙ passed _ _ (tried .has-room .ensures) (chosen .if2 .left)
+    ∙ passed _ _ (tried .before .before .is-sound-over .ensures) (tried .before .if1 .left))
     (drawn .draw .ensures)
 
 pub emit-spec : {M : Type 1} → statement M
