@@ -10,18 +10,21 @@ use Rattle.source_map.specs.declared.Entry.{Entry}
 
 -- ---- its meaning
 
+-- "scope 0 to 1,023"
+abbrev pub lastScope : ℕ
+lastScope = 1023
+
 -- "place and length 0 to 65,536, scope 0 to 1,023, span any u32"
 unfoldable pub inRange : Entry → Bool
-inRange e = leb (e .scope) 1023 && leb (e .pc) 65536 && leb (e .len) 65536
+inRange e = leb (e .scope) lastScope && leb (e .pc) 65536 && leb (e .len) 65536
 
 -- "half-open range holds the address; length 0 never does"
 unfoldable pub holds : ℕ → Entry → Bool
 holds address e = leb (e .pc) address && ltb address (e .pc + e .len)
 
--- an entry of the old scope gets the new scope and the new span; another stays
+-- an entry of the scope `from` gets the scope `to` and the span; another stays
 unfoldable pub moved : ℕ → ℕ → ℕ → Entry → Entry
-moved from to span e =
-    pick (eqb (e .scope) from) (record { scope = to; span = span; pc = e .pc; len = e .len }) e
+moved from to span e = pick (eqb (e .scope) from) (record { scope = to; span = span; pc = e .pc; len = e .len }) e
 
 -- ---- its words
 

@@ -10,7 +10,7 @@ use Rattle.refusals.specs.Answer.{Answer, Done, Refused, pick}
 use Rattle.refusals.specs.Table.{argument, noRoom}
 use Rattle.refusals.specs.Memory.{over}
 use Rattle.source_map.specs.declared.Entry.{Entry}
-use Rattle.source_map.specs.Entry.{inRange, holds, moved, width, wordsOf, entryAt}
+use Rattle.source_map.specs.Entry.{lastScope, inRange, holds, moved, width, wordsOf, entryAt}
 
 -- ---- a map in lent memory
 
@@ -92,13 +92,13 @@ firstHolding address (e ∷ es) = pick (holds address e) (some e) (firstHolding 
 unfoldable pub addressToOffset : List ℕ → ℕ → Answer (Option Entry)
 addressToOffset memory address = ofMap memory (Done (firstHolding address (entries memory)))
 
--- every entry of the old scope gets the new scope and the new span
+-- every entry of the scope `from` gets the scope `to` and the span
 abbrev pub movedAll : ℕ → ℕ → ℕ → List Entry → List Entry
 movedAll from to span = map (moved from to span)
 
 unfoldable pub moveOffsets : List ℕ → ℕ → ℕ → ℕ → Answer (List Entry)
 moveOffsets memory from to span =
     ofMap memory
-    (pick (leb from 1023 && leb to 1023)
+    (pick (leb from lastScope && leb to lastScope)
     (Done (movedAll from to span (entries memory)))
     (Refused argument))
