@@ -46,9 +46,10 @@ loop-less c = omega arith
 
 loop-again : tie.Need-loop-again Inv-loop μ-loop
 loop-again c =
-    let at-loop = c .before .before in (
+    let at-loop = c .before .before in
+    let more : at-loop .loop .i < length (at-loop .before .args .bytes .now) = omega arith in (
       omega arith,
-      one-more _ _ _ _ _ (at-loop .loop .inv .1) (at-loop .before .pre) (c .before .loop-test .taken),
+      one-more _ _ _ _ _ (at-loop .loop .inv .1) (at-loop .before .pre) more,
       simp length-set (at-loop .loop .inv .2),
     )
 
@@ -56,7 +57,9 @@ same-length : tie.Need-same-length Inv-loop μ-loop
 same-length c = c .before .loop .inv .2
 
 returns : tie.Need-returns Inv-loop μ-loop
-returns c = whole _ _ _ _ _ (c .before .loop .inv .1) (c .before .loop .inv .0) (c .loop-test .left)
+returns c =
+    let all : length (c .before .before .args .bytes .now) ≤ c .before .loop .i = omega arith in
+    whole _ _ _ _ _ (c .before .loop .inv .1) (c .before .loop .inv .0) all
 
 pub copy-in-spec : {M : Type 1} → statement M
 copy-in-spec = tie.close (tie.spec Inv-loop μ-loop loop-holds shared-slice-read-image add-image slice-write-image add-i loop-less loop-again same-length returns)
