@@ -1,12 +1,12 @@
 -- What a sound pen has, what room an emit has, and what the calls make of pens and images. Assumes nothing.
 use mathlib.Core.Bool.{Bool, true, false, not, _&&_, cond, and-eq-true-iff, not-eq-not}
-use mathlib.Core.Path.{_≡_, refl, sym, ap, _∙_}
-use mathlib.Core.List.{List, [], _∷_, _++_}
+use mathlib.Core.Path.{_≡_, sym, ap, _∙_}
+use mathlib.Core.List.{List, []}
 use Prim.Native.Nat.{ℕ, zero, suc, _+_, _-_, _^_, _<_, _≤_, min, max}
 use native.Mathlib.Omega.{arith}
 use lib.Dec.{leb, ltb}
 use lib.IntN.{pos, negsuc, _-ℤ_}
-use lib.ListN.{length, take, drop, set, replicate}
+use lib.ListN.{length, take, drop, replicate}
 use lib.Signed.{mag}
 use mir.Syntax.{w64}
 use mir.Val.{SFits, toZ, ofZ}
@@ -139,26 +139,6 @@ module _ (a b : ℕ) (h : a < 2 ^ 63) (k : b < 2 ^ 63) where
   difference-is = toZ-ofZ difference-fits ∙ (λ i. read a h i -ℤ read b k i)
 
 -- ---- the image
-
--- the first i bytes zero, the rest as it was
-pub cleared : List ℕ → ℕ → List ℕ
-cleared xs i = replicate i 0 ++ drop i xs
-
-pub cleared-zero : (xs : List ℕ) → xs ≡ cleared xs 0
-unfolding cleared
-cleared-zero [] = refl
-cleared-zero (x ∷ xs) = refl
-
-pub cleared-suc : (xs : List ℕ) (i : ℕ) → i < length xs → set (cleared xs i) i 0 ≡ cleared xs (suc i)
-unfolding cleared
-cleared-suc [] i h = absurd (omega arith)
-cleared-suc (x ∷ xs) zero h = refl
-cleared-suc (x ∷ xs) (suc i) h = ap (λ (l : List ℕ). 0 ∷ l) (cleared-suc xs i (omega arith))
-
-pub cleared-all : (xs : List ℕ) → cleared xs (length xs) ≡ replicate (length xs) 0
-unfolding cleared
-cleared-all [] = refl
-cleared-all (x ∷ xs) = ap (λ (l : List ℕ). 0 ∷ l) (cleared-all xs)
 
 -- bytes over the image as it is, and over one that was cleared
 module _ (image bytes : List ℕ) (at : ℕ) {t : Bool} {after : List ℕ} where

@@ -1,0 +1,92 @@
+-- What the small steps of a call make of a table: room, numbers, a node more, an edge more. Assumes nothing.
+use mathlib.Core.Bool.{Bool, true, false, and-eq-true-iff}
+use mathlib.Core.Path.{_≡_, refl, sym, ap, _∙_}
+use mathlib.Core.List.{List}
+use mathlib.Core.Option.{Option, none, some}
+use Prim.Native.Nat.{ℕ, suc, _+_, _*_, _-_, _<_, _≤_}
+use native.Mathlib.Numerals.{add-one}
+use native.Mathlib.Omega.{arith}
+use lib.Dec.{leb}
+use lib.IntN.{ℤ, pos}
+use lib.ListN.{length, getD, set, drop}
+use lib.Seq.{drop-cons}
+use borrow.Author.Tests.{le-leb, lt-leb, leb-true, leb-false}
+use Rattle.symbols.specs.declared.SymbolTable.{SymbolTable}
+use Rattle.symbols.specs.Symbols.{room, numberAt, isKnown, numberOr0, withData, withEdge, withNode, inserted, grown}
+use Rattle.symbols.proofs.Laws.{at-end, three-stores}
+
+-- ---- room
+
+module _ (n k : ℕ) where
+  pub room-nodes : 1024 < n → false ≡ room n k
+  unfolding room
+  room-nodes h = rw (lt-leb n 1024 h)
+
+  pub room-edges : n ≤ 1024 → leb k 2048 ≡ room n k
+  unfolding room
+  room-edges h = rw (le-leb n 1024 h)
+
+pub room-has : (n k : ℕ) → room n k ≡ true → (n ≤ 1024) × (k ≤ 2048)
+unfolding room
+room-has n k h = let a = and-eq-true-iff (leb n 1024) (leb k 2048) .0 h in (leb-true _ _ (a .0), leb-true _ _ (a .1))
+
+-- what fits behind so many fits in all
+pub fits-behind : (edges k : ℕ) → edges ≤ 2048 → leb k (2048 - edges) ≡ leb (edges + k) 2048
+fits-behind edges k h = go (leb k (2048 - edges)) refl
+  where
+    go : (b : Bool) → leb k (2048 - edges) ≡ b → b ≡ leb (edges + k) 2048
+    go true e = sym (le-leb (edges + k) 2048 (omega (arith, leb-true k (2048 - edges) e)))
+    go false e = sym (lt-leb (edges + k) 2048 (omega (arith, leb-false k (2048 - edges) e)))
+
+-- ---- a node's number
+
+module _ (known : List Bool) (number : List ℤ) (s : ℕ) {v : ℕ} (is : v ≡ s) where
+  pub number-there : {z : ℤ} → getD known v false ≡ true → z ≡ getD number v (pos 0) → some z ≡ numberAt known number s
+  unfolding numberAt
+  number-there h e = let here : getD known s false ≡ true = rw is at h in rw here (ap some (e ∙ ap (λ (j : ℕ). getD number j (pos 0)) is))
+
+  pub number-none : getD known v false ≡ false → none ≡ numberAt known number s
+  unfolding numberAt
+  number-none h = let here : getD known s false ≡ false = rw is at h in rw here
+
+-- ---- a changed table
+
+module _ (t : SymbolTable) (d : Option ℤ) {b : Bool} {z : ℤ} (known : b ≡ isKnown d) (number : z ≡ numberOr0 d) where
+  pub node-more : record { nodes = t .nodes + 1; edges = t .edges; links = t .links; known = set (t .known) (t .nodes) b; number = set (t .number) (t .nodes) z } ≡ withNode t d
+  unfolding withNode
+  node-more i = record { nodes = t .nodes + 1; edges = t .edges; links = t .links; known = set (t .known) (t .nodes) (known i); number = set (t .number) (t .nodes) (number i) }
+
+  pub data-anew : {v n : ℕ} → v ≡ n → record { nodes = t .nodes; edges = t .edges; links = t .links; known = set (t .known) v b; number = set (t .number) v z } ≡ withData t n d
+  unfolding withData
+  data-anew e i = record { nodes = t .nodes; edges = t .edges; links = t .links; known = set (t .known) (e i) (known i); number = set (t .number) (e i) (number i) }
+
+module _ (t : SymbolTable) where
+  pub edge-more : (s x n : ℕ) → t .edges < 2048 → length (t .links) ≡ 6144
+      → record { nodes = t .nodes; edges = t .edges + 1; links = set (set (set (t .links) (3 * t .edges) s) (3 * t .edges + 1) x) (3 * t .edges + 2) n; known = t .known; number = t .number } ≡ withEdge t s x n
+  unfolding withEdge
+  edge-more s x n h size i = record { nodes = t .nodes; edges = t .edges + 1; links = three-stores (t .links) (3 * t .edges) (omega arith) s x n i; known = t .known; number = t .number }
+
+  pub node-edges : (d : Option ℤ) → withNode t d .edges ≡ t .edges
+  unfolding withNode
+  node-edges d = refl
+
+-- ---- nodes one below the other
+
+module _ (t u : SymbolTable) (s x : ℕ) (d : Option ℤ) (is : u ≡ inserted t s x d) where
+  pub one-node-more : u .nodes ≡ t .nodes + 1
+  unfolding withNode withEdge
+  one-node-more = ap (λ (v : SymbolTable). v .nodes) is
+
+  pub one-edge-more : u .edges ≡ t .edges + 1
+  unfolding withNode withEdge
+  one-edge-more = ap (λ (v : SymbolTable). v .edges) is
+
+module _ (names : List ℕ) (i : ℕ) where
+  pub grown-on : (t u : SymbolTable) (s : ℕ) → i < length names → u ≡ inserted t s (getD names i 0) none
+      → grown u (t .nodes) (drop (i + 1) names) ≡ grown t s (drop i names)
+  unfolding grown
+  grown-on t u s h is = rw (add-one, drop-cons names i 0 h) (ap (λ (v : SymbolTable). grown v (t .nodes) (drop (suc i) names)) is)
+
+  pub grown-end : (t : SymbolTable) (s : ℕ) → i ≤ length names → length names ≤ i → (t, s) ≡ grown t s (drop i names)
+  unfolding grown
+  grown-end t s h g = rw (at-end names i h g)

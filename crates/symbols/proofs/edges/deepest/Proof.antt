@@ -1,0 +1,67 @@
+-- How much is there of the path is how much is there of its rest, from here. Assumes nothing.
+use mathlib.Core.Path.{_≡_, refl, sym, _∙_}
+use Prim.Native.Nat.{_≤_, _-_}
+use native.Mathlib.Omega.{arith}
+use lib.ListN.{length, drop}
+use Rattle.symbols.specs.Edges.{deepest, edgesIn}
+use Rattle.symbols.proofs.Laws as laws
+use borrow.Author.Needs.{needs}
+use Rattle.symbols.proofs.edges.deepest.Statement.{statement}
+use Rattle.symbols.proofs.edges.deepest.Tie as tie
+
+abbrev Inv-loop : tie.InvT-loop
+Inv-loop links n s path node₀ depth₀ node depth = (depth ≤ length path) × (deepest (edgesIn links n) s path ≡ deepest (edgesIn links n) node (drop depth path))
+
+abbrev μ-loop : tie.MeasureT-loop
+μ-loop links n s path node₀ depth₀ node depth = length path - depth
+
+loop-holds : tie.Need-loop-holds Inv-loop μ-loop
+loop-holds c = (search needs, refl)
+
+mul-child : tie.Need-mul-child Inv-loop μ-loop
+mul-child c = search needs
+
+shared-slice-read-child : tie.Need-shared-slice-read-child Inv-loop μ-loop
+shared-slice-read-child c = search needs
+
+child-requires : tie.Need-child-requires Inv-loop μ-loop
+child-requires c κs = search needs
+
+enum-known-next : tie.Need-enum-known-next Inv-loop μ-loop
+enum-known-next c = search needs
+
+enum-told : tie.Need-enum-told Inv-loop μ-loop
+enum-told c = search needs
+
+returns : tie.Need-returns Inv-loop μ-loop
+returns c = (omega (arith, c .before .before .before .before .before .loop .inv .0), laws.no-deeper _ _ (c .before .before .before .before .loop-test .taken) _ _ (laws.reached-none (c .before .before .child .ensures) (c .enum-told .given .1)) ∙ sym (c .before .before .before .before .before .loop .inv .1))
+
+add-depth : tie.Need-add-depth Inv-loop μ-loop
+add-depth c = search needs
+
+loop-less : tie.Need-loop-less Inv-loop μ-loop
+loop-less c = search needs
+
+loop-again : tie.Need-loop-again Inv-loop μ-loop
+loop-again c = (search needs, c .before .before .before .before .before .before .loop .inv .1 ∙ laws.deeper _ _ (c .before .before .before .before .before .loop-test .taken) _ _ (laws.reached-node (c .before .before .before .child .ensures) (c .before .next .given .1)))
+
+returns-2 : tie.Need-returns-2 Inv-loop μ-loop
+returns-2 c = (c .before .loop .inv .0, laws.deepest-end _ _ (c .before .loop .inv .0) (c .loop-test .left) _ _ ∙ sym (c .before .loop .inv .1))
+
+pub deepest-spec : {M : Type 1} → statement M
+deepest-spec =
+    tie.close
+    (tie.spec
+    Inv-loop
+    μ-loop
+    loop-holds
+    mul-child
+    shared-slice-read-child
+    child-requires
+    enum-known-next
+    enum-told
+    returns
+    add-depth
+    loop-less
+    loop-again
+    returns-2)

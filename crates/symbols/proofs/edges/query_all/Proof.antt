@@ -1,0 +1,69 @@
+-- The loop keeps: what is listed, what the waiting scopes get and what the chain from here answers is all. Assumes nothing.
+use mathlib.Core.Path.{sym, ap, _∙_}
+use mathlib.Core.List.{List}
+use Prim.Native.Nat.{ℕ}
+use lib.ListN.{length}
+use Rattle.symbols.specs.Edges.{chain, edgesIn}
+use Rattle.symbols.proofs.Laws as laws
+use Rattle.symbols.proofs.All as all
+use Rattle.symbols.proofs.All.{AskedTo}
+use borrow.Author.Needs.{needs}
+use Rattle.symbols.proofs.edges.query_all.Statement.{statement}
+use Rattle.symbols.proofs.edges.query_all.Tie as tie
+
+abbrev Inv-loop : tie.InvT-loop
+Inv-loop links n s path list₀ waits at₀ tally₀ list at tally = AskedTo (edgesIn links n) path s list at tally
+
+abbrev μ-loop : tie.MeasureT-loop
+μ-loop links n s path list₀ waits at₀ tally₀ list at tally = length (chain (edgesIn links n) at)
+
+has-super-requires : tie.Need-has-super-requires Inv-loop μ-loop
+has-super-requires c κs = search needs
+
+loop-holds : tie.Need-loop-holds Inv-loop μ-loop
+loop-holds c = all.ask-begins _ _ _ (c .before .before .before .pre .1) (c .before .before .before .pre .2)
+
+walk-requires : tie.Need-walk-requires Inv-loop μ-loop
+walk-requires c κs = search needs
+
+noted-requires : tie.Need-noted-requires Inv-loop μ-loop
+noted-requires c κs = all.ask-room _ _ _ (c .before .before .loop .inv)
+
+parent-requires : tie.Need-parent-requires Inv-loop μ-loop
+parent-requires c κs = search needs
+
+enum-known-up : tie.Need-enum-known-up Inv-loop μ-loop
+enum-known-up c = search needs
+
+enum-told : tie.Need-enum-told Inv-loop μ-loop
+enum-told c = search needs
+
+same-length : tie.Need-same-length Inv-loop μ-loop
+same-length c = c .before .before .before .before .list .given ∙ all.ask-length _ _ _ (c .before .before .before .before .before .before .before .before .loop .inv) ∙ sym (ap (λ (l : List ℕ). length l) (c .before .before .before .before .before .before .before .before .before .before .before .before .pre .2))
+
+returns : tie.Need-returns Inv-loop μ-loop
+returns c = all.ask-ends _ _ _ (c .before .before .before .before .before .before .before .before .loop .inv) (c .before .before .before .before .before .before .before .walk .result) (c .before .before .before .before .before .before .before .walk .ensures) (c .before .before .before .before .before .before .before .before .before .has-super .ensures) (c .before .before .before .before .before .noted .ensures) (laws.reached-none (c .before .before .parent .ensures) (c .enum-told .given .1))
+
+loop-less : tie.Need-loop-less Inv-loop μ-loop
+loop-less c = let ends = c .before .before .before .before .before .before .before .before .before .loop .inv .ends in laws.chain-falls _ _ (ends .1) (ends .0) (laws.reached-node (c .before .before .before .parent .ensures) (c .before .up .given .1))
+
+loop-again : tie.Need-loop-again Inv-loop μ-loop
+loop-again c = all.ask-up _ _ _ (c .before .before .before .before .before .before .before .before .before .loop .inv) (c .before .before .before .before .before .before .before .before .walk .result) (c .before .before .before .before .before .before .before .before .walk .ensures) (c .before .before .before .before .before .before .before .before .before .before .has-super .ensures) (c .before .before .before .before .before .before .noted .ensures) (laws.reached-node (c .before .before .before .parent .ensures) (c .before .up .given .1))
+
+pub query-all-spec : {M : Type 1} → statement M
+query-all-spec =
+    tie.close
+    (tie.spec
+    Inv-loop
+    μ-loop
+    has-super-requires
+    loop-holds
+    walk-requires
+    noted-requires
+    parent-requires
+    enum-known-up
+    enum-told
+    same-length
+    returns
+    loop-less
+    loop-again)

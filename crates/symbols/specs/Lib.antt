@@ -1,0 +1,4 @@
+pub mod Edges
+pub mod Symbols
+pub mod Steps
+pub mod Says

@@ -1,0 +1,67 @@
+-- What the answers say in document 01's terms. Assumes nothing: these are definitions.
+use Prim.Native.Nat.{ℕ}
+use lib.IntN.{ℤ}
+use mathlib.Core.Option.{Option, none, some}
+use Rattle.refusals.specs.Answer.{Answer, Done, Refused}
+use Rattle.refusals.specs.Says.{says}
+use Rattle.symbols.specs.declared.SymbolTable.{SymbolTable}
+use Rattle.symbols.specs.declared.Changed.{Changed}
+use Rattle.symbols.specs.declared.Inserted.{Inserted}
+use Rattle.symbols.specs.declared.Data as D
+use Rattle.symbols.specs.declared.Data.the-variants as datum
+use Rattle.symbols.specs.declared.Got as G
+use Rattle.symbols.specs.declared.Got.the-variants as got
+use Rattle.symbols.specs.declared.Node as N
+use Rattle.symbols.specs.declared.Node.the-variants as node
+use Rattle.symbols.specs.declared.edges.Reached as R
+use Rattle.symbols.specs.declared.edges.Reached.the-variants as reached
+use Rattle.symbols.specs.declared.Found as F
+use Rattle.symbols.specs.declared.Found.the-variants as found
+use Rattle.symbols.specs.declared.Count as C
+use Rattle.symbols.specs.declared.Count.the-variants as count
+
+-- a number, or none
+abbrev pub saysData : D.Data → Option ℤ
+saysData (datum.Number z) = some z
+saysData (datum.Unresolved) = none
+
+abbrev pub saysGot : G.Got → Answer (Option ℤ)
+saysGot (got.Number z) = Done (some z)
+saysGot (got.Unresolved) = Done none
+saysGot (got.Refused n) = Refused n
+
+abbrev pub saysNode : N.Node → Answer ℕ
+saysNode (node.Is n) = Done n
+saysNode (node.Refused n) = Refused n
+
+-- a node, or none
+abbrev pub saysReached : R.Reached → Option ℕ
+saysReached (reached.At n) = some n
+saysReached (reached.Nothing) = none
+
+abbrev pub saysFound : F.Found → Answer (Option ℕ)
+saysFound (found.At n) = Done (some n)
+saysFound (found.Nothing) = Done none
+saysFound (found.Refused n) = Refused n
+
+abbrev pub saysCount : C.Count → Answer ℕ
+saysCount (count.Is n) = Done n
+saysCount (count.Refused n) = Refused n
+
+-- the table afterwards, and the outcome
+abbrev pub saysChanged : Changed → SymbolTable × Answer (Unit {0})
+saysChanged c = (c .table, says (c .answer))
+
+-- what a call leaves of a table: what it gives, or, where it is refused, the table as it was
+abbrev pub left : SymbolTable → Answer SymbolTable → SymbolTable × Answer (Unit {0})
+left t (Done u) = (u, Done tt)
+left t (Refused n) = (t, Refused n)
+
+-- the table afterwards, and the node
+abbrev pub saysInserted : Inserted → SymbolTable × Answer ℕ
+saysInserted i = (i .table, saysNode (i .answer))
+
+-- the same of a call that gives a node beside the table
+abbrev pub leftNode : SymbolTable → Answer (SymbolTable × ℕ) → SymbolTable × Answer ℕ
+leftNode t (Done u) = (u .0, Done (u .1))
+leftNode t (Refused n) = (t, Refused n)
