@@ -38,6 +38,12 @@ pub done-passed : {A : Type 0} (t : Bool) (a : Answer A) (n : ℕ) {x : A} → p
 done-passed true a n e = (refl, e)
 done-passed false a n e = never (cc)
 
+-- or was not refused by it
+pub done-missed : {A : Type 0} (b : Bool) (a : Answer A) (n : ℕ) {x : A}
+    → pick b (Refused n) a ≡ Done x → (b ≡ false) × (a ≡ Done x)
+done-missed true a n e = never (cc)
+done-missed false a n e = (refl, e)
+
 abbrev valueOr : {A : Type 0} → A → Answer A → A
 valueOr b (Done a) = a
 valueOr b (Refused n) = b

@@ -199,7 +199,7 @@ module _ (es : List Edge) (n : ℕ) (ok : allFit n es ≡ true) where
 
 -- ---- what `has` finds on a chain
 
-has-up : (es : List Edge) (k s t : ℕ) → has t (chainOf es k s) ≡ true → (j : ℕ) × Up es j s t
+pub has-up : (es : List Edge) (k s t : ℕ) → has t (chainOf es k s) ≡ true → (j : ℕ) × Up es j s t
 unfolding has chainOf
 has-up es zero s t r = never (cc)
 has-up es (suc k) s t r = go (has-up es k) (eqb s t) refl (parentOf es s) refl

@@ -4,5 +4,7 @@ pub mod Chains
 pub mod Sound
 pub mod Tables
 pub mod Calls
+pub mod Growing
 pub mod Kept
+pub mod Words
 pub mod Unique

@@ -115,9 +115,6 @@ taken (e ∷ es) s x n = elsewhere s x n e || taken es s x n
 abbrev pub width : ℕ
 width = 3
 
-abbrev pub wordsOf : Edge → List ℕ
-wordsOf e = e .from ∷ e .id ∷ e .to ∷ []
-
 -- edge i stands behind the i edges before it
 unfoldable pub edgeAt : List ℕ → ℕ → Edge
 edgeAt links i = let at = width * i in record { from = getD links at 0; id = getD links (at + 1) 0; to = getD links (at + 2) 0 }

@@ -52,16 +52,6 @@ saysCount (count.Refused n) = Refused n
 abbrev pub saysChanged : Changed → SymbolTable × Answer (Unit {0})
 saysChanged c = (c .table, says (c .answer))
 
--- what a call leaves of a table: what it gives, or, where it is refused, the table as it was
-abbrev pub left : SymbolTable → Answer SymbolTable → SymbolTable × Answer (Unit {0})
-left t (Done u) = (u, Done tt)
-left t (Refused n) = (t, Refused n)
-
 -- the table afterwards, and the node
 abbrev pub saysInserted : Inserted → SymbolTable × Answer ℕ
 saysInserted i = (i .table, saysNode (i .answer))
-
--- the same of a call that gives a node beside the table
-abbrev pub leftNode : SymbolTable → Answer (SymbolTable × ℕ) → SymbolTable × Answer ℕ
-leftNode t (Done u) = (u .0, Done (u .1))
-leftNode t (Refused n) = (t, Refused n)

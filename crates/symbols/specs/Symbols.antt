@@ -138,6 +138,18 @@ unfoldable pub grown : SymbolTable → ℕ → List ℕ → SymbolTable × ℕ
 grown t s [] = (t, s)
 grown t s (x ∷ xs) = grown (inserted t s x none) (t .nodes) xs
 
+-- ---- what a call leaves
+
+-- "Refused calls leave table [..] unchanged": the table that a call gives, or, where it is refused, the table as it was
+abbrev pub left : SymbolTable → Answer SymbolTable → SymbolTable × Answer (Unit {0})
+left t (Done u) = (u, Done tt)
+left t (Refused n) = (t, Refused n)
+
+-- the same of a call that gives a node beside the table
+abbrev pub leftNode : SymbolTable → Answer (SymbolTable × ℕ) → SymbolTable × Answer ℕ
+leftNode t (Done u) = (u .0, Done (u .1))
+leftNode t (Refused n) = (t, Refused n)
+
 -- ---- the calls
 
 -- a node's number, if it has one

@@ -1,10 +1,11 @@
 // Look-ups in the edges of a table: in the first n of them, which are in the order of adding, so that each goes from the last to
 // the first. The edges are lent; nothing is copied.
+use crate::WORDS;
 ghost use mathlib.Core.Path.{_≡_};
 ghost use Prim.Native.Nat.{_+_, _*_, _<_, _≤_};
 ghost use lib.ListN.{length, drop, replicate};
 ghost use Rattle.refusals.specs.Memory.{over};
-ghost use Rattle.symbols.specs.Edges.{childOf, parentOf, stepOf, walkOf, has, chain, queryOf, allOf, deepest, elsewhere, taken, edgeAt, edgesIn};
+ghost use Rattle.symbols.specs.Edges.{maxNodes, maxEdges, childOf, parentOf, stepOf, walkOf, has, chain, queryOf, allOf, deepest, elsewhere, taken, edgeAt, edgesIn};
 ghost use Rattle.symbols.specs.Symbols.{listed};
 ghost use Rattle.symbols.specs.Steps.{Ends, answers, tallied};
 ghost use Rattle.symbols.specs.Says.{saysReached};
@@ -41,8 +42,8 @@ pub struct There {
 }
 
 // Edge i.
-pub fn edge_at(links: &[u16; 6144], i: usize) -> Edge
-    requires { ⌜ i < 2048 ⌝ }
+pub fn edge_at(links: &[u16; WORDS], i: usize) -> Edge
+    requires { ⌜ i < maxEdges ⌝ }
     ensures { λ r. ⌜ r ≡ edgeAt (now (links .entry)) i ⌝ }
 {
     let at = WIDTH * i;
@@ -54,8 +55,8 @@ pub fn edge_at(links: &[u16; 6144], i: usize) -> Edge
 }
 
 // Where the last added edge from s under the name x leads.
-pub fn child(links: &[u16; 6144], n: usize, s: u16, x: u16) -> Reached
-    requires { ⌜ n ≤ 2048 ⌝ }
+pub fn child(links: &[u16; WORDS], n: usize, s: u16, x: u16) -> Reached
+    requires { ⌜ n ≤ maxEdges ⌝ }
     ensures { λ r. ⌜ saysReached r ≡ childOf (edgesIn (now (links .entry)) n) s x ⌝ }
 {
     let mut i = n;
@@ -72,8 +73,8 @@ pub fn child(links: &[u16; 6144], n: usize, s: u16, x: u16) -> Reached
 }
 
 // Where the last added edge to s comes from.
-pub fn parent(links: &[u16; 6144], n: usize, s: u16) -> Reached
-    requires { ⌜ n ≤ 2048 ⌝ }
+pub fn parent(links: &[u16; WORDS], n: usize, s: u16) -> Reached
+    requires { ⌜ n ≤ maxEdges ⌝ }
     ensures { λ r. ⌜ saysReached r ≡ parentOf (edgesIn (now (links .entry)) n) s ⌝ }
 {
     let mut i = n;
@@ -88,8 +89,8 @@ pub fn parent(links: &[u16; 6144], n: usize, s: u16) -> Reached
 }
 
 // Where one id of a path leads.
-fn step(links: &[u16; 6144], n: usize, s: u16, x: u16) -> Reached
-    requires { ⌜ n ≤ 2048 ⌝ }
+fn step(links: &[u16; WORDS], n: usize, s: u16, x: u16) -> Reached
+    requires { ⌜ n ≤ maxEdges ⌝ }
     ensures { λ r. ⌜ saysReached r ≡ stepOf (edgesIn (now (links .entry)) n) s x ⌝ }
 {
     if x == SUPER {
@@ -100,8 +101,8 @@ fn step(links: &[u16; 6144], n: usize, s: u16, x: u16) -> Reached
 }
 
 // Where the whole path leads from s.
-pub fn walk(links: &[u16; 6144], n: usize, s: u16, path: &[u16]) -> Reached
-    requires { ⌜ n ≤ 2048 ⌝ }
+pub fn walk(links: &[u16; WORDS], n: usize, s: u16, path: &[u16]) -> Reached
+    requires { ⌜ n ≤ maxEdges ⌝ }
     ensures { λ r. ⌜ saysReached r ≡ walkOf (edgesIn (now (links .entry)) n) (now (path .entry)) s ⌝ }
 {
     let mut at = s;
@@ -131,8 +132,8 @@ pub fn has_super(path: &[u16]) -> bool
 }
 
 // The query from s: the whole path, else the same from the parent. What is left of the chain to the root falls.
-pub fn query(links: &[u16; 6144], n: usize, s: u16, path: &[u16]) -> Reached
-    requires { ⌜ (n ≤ 2048) × Ends (edgesIn (now links) n) s ⌝ }
+pub fn query(links: &[u16; WORDS], n: usize, s: u16, path: &[u16]) -> Reached
+    requires { ⌜ (n ≤ maxEdges) × Ends (edgesIn (now links) n) s ⌝ }
     ensures { λ r. ⌜ saysReached r ≡ queryOf (edgesIn (now (links .entry)) n) s (now (path .entry)) ⌝ }
 {
     match walk(links, n, s, path) {
@@ -151,8 +152,8 @@ pub fn query(links: &[u16; 6144], n: usize, s: u16, path: &[u16]) -> Reached
 }
 
 // Whether node x is on the chain of s to the root.
-pub fn on_chain(links: &[u16; 6144], n: usize, s: u16, x: u16) -> bool
-    requires { ⌜ (n ≤ 2048) × Ends (edgesIn (now links) n) s ⌝ }
+pub fn on_chain(links: &[u16; WORDS], n: usize, s: u16, x: u16) -> bool
+    requires { ⌜ (n ≤ maxEdges) × Ends (edgesIn (now links) n) s ⌝ }
     ensures { λ r. ⌜ r ≡ has x (chain (edgesIn (now (links .entry)) n) s) ⌝ }
 {
     let mut at = s;
@@ -166,8 +167,8 @@ pub fn on_chain(links: &[u16; 6144], n: usize, s: u16, x: u16) -> bool
 }
 
 // How much of the path is there below s.
-pub fn deepest(links: &[u16; 6144], n: usize, s: u16, path: &[u16]) -> There
-    requires { ⌜ n ≤ 2048 ⌝ }
+pub fn deepest(links: &[u16; WORDS], n: usize, s: u16, path: &[u16]) -> There
+    requires { ⌜ n ≤ maxEdges ⌝ }
     ensures { λ r. ⌜ (r .depth ≤ length (now (path .entry)))
         × ((r .node, drop (r .depth) (now (path .entry))) ≡ deepest (edgesIn (now (links .entry)) n) s (now (path .entry))) ⌝ }
 {
@@ -184,8 +185,8 @@ pub fn deepest(links: &[u16; 6144], n: usize, s: u16, path: &[u16]) -> There
 }
 
 // Whether an edge from s under the name x leads to another node than `to`.
-pub fn is_taken(links: &[u16; 6144], n: usize, s: u16, x: u16, to: u16) -> bool
-    requires { ⌜ n ≤ 2048 ⌝ }
+pub fn is_taken(links: &[u16; WORDS], n: usize, s: u16, x: u16, to: u16) -> bool
+    requires { ⌜ n ≤ maxEdges ⌝ }
     ensures { λ r. ⌜ r ≡ taken (edgesIn (now (links .entry)) n) s x to ⌝ }
 {
     let mut i = n;
@@ -213,8 +214,8 @@ fn leads_elsewhere(edge: Edge, s: u16, x: u16, to: u16) -> bool
 
 // The answers of the query from s and from each scope above it, into a list of zeros; and how many they are. Each scope is asked
 // once: where it fails, it waits for the answer of the next above it.
-pub fn query_all(links: &[u16; 6144], n: usize, s: u16, path: &[u16], list: &mut [u16]) -> usize
-    requires { ⌜ (n ≤ 2048) × Ends (edgesIn (now links) n) s × (now list ≡ replicate 1024 0) ⌝ }
+pub fn query_all(links: &[u16; WORDS], n: usize, s: u16, path: &[u16], list: &mut [u16]) -> usize
+    requires { ⌜ (n ≤ maxEdges) × Ends (edgesIn (now links) n) s × (now list ≡ replicate maxNodes 0) ⌝ }
     ensures { λ r. ⌜ (now (list .exit) ≡ listed (allOf (edgesIn (now (links .entry)) n) s (now (path .entry))))
         × (r ≡ length (allOf (edgesIn (now (links .entry)) n) s (now (path .entry)))) ⌝ }
 {

@@ -18,15 +18,18 @@ ghost use Prim.Native.Nat.{_+_, _<_, _≤_};
 ghost use lib.ListN.{length};
 ghost use lib.Dec.{eqb, ltb};
 ghost use Rattle.refusals.specs.Answer.{Done, Refused, mapped};
-ghost use Rattle.symbols.specs.Edges.{taken, edgesIn};
-ghost use Rattle.symbols.specs.Symbols.{new, soundEdges, sound, isNewPath, room, numberAt, isKnown, numberOr0, withData, withEdge, withNode, inserted, grown, get, insert, updateData, child, parent, tryIndex, query, ensureIndex, exportFrom, export, queryAll, listAfter};
-ghost use Rattle.symbols.specs.Says.{saysData, saysGot, saysReached, saysFound, saysCount, saysChanged, left, saysInserted, leftNode};
+ghost use Rattle.symbols.specs.Edges.{maxNodes, maxEdges, taken, edgesIn};
+ghost use Rattle.symbols.specs.Symbols.{left, leftNode, new, soundEdges, sound, isNewPath, room, numberAt, isKnown, numberOr0, withData, withEdge, withNode, inserted, grown, get, insert, updateData, child, parent, tryIndex, query, ensureIndex, exportFrom, export, queryAll, listAfter};
+ghost use Rattle.symbols.specs.Says.{saysData, saysGot, saysReached, saysFound, saysCount, saysChanged, saysInserted};
 
 // How many nodes a table holds, with the root; also how many places the list of query_all has.
 pub const NODES: usize = 1024;
 
 // How many edges a table holds.
 pub const EDGES: usize = 2048;
+
+// How many words the edges have, three each.
+pub const WORDS: usize = 6144;
 
 // How many ids a path has at most.
 const LONGEST: usize = 4;
@@ -36,9 +39,9 @@ const LONGEST: usize = 4;
 pub struct SymbolTable {
     pub nodes: usize,
     pub edges: usize,
-    pub links: [u16; 6144],
-    pub known: [bool; 1024],
-    pub number: [i64; 1024],
+    pub links: [u16; WORDS],
+    pub known: [bool; NODES],
+    pub number: [i64; NODES],
 }
 
 // What a node has: a number, or none yet.
@@ -47,23 +50,27 @@ pub enum Data {
     Unresolved,
 }
 
+// A node's number, if it has one, or the refusal.
 pub enum Got {
     Number(i64),
     Unresolved,
     Refused(u8),
 }
 
+// A node, or the refusal.
 pub enum Node {
     Is(u16),
     Refused(u8),
 }
 
+// The node that a look-up finds, if it finds one, or the refusal.
 pub enum Found {
     At(u16),
     Nothing,
     Refused(u8),
 }
 
+// How many answers there are, or the refusal.
 pub enum Count {
     Is(usize),
     Refused(u8),
@@ -95,9 +102,9 @@ impl SymbolTable {
         SymbolTable {
             nodes: 1,
             edges: 0,
-            links: [0u16; 6144],
-            known: [false; 1024],
-            number: [0i64; 1024],
+            links: [0u16; WORDS],
+            known: [false; NODES],
+            number: [0i64; NODES],
         }
     }
 
@@ -278,7 +285,7 @@ impl SymbolTable {
 
     // New nodes below s, one below the other, by these names.
     fn grown(self, s: u16, names: &[u16]) -> Grown
-        requires { ⌜ (self .nodes + length (now names) ≤ 1024) × (self .edges + length (now names) ≤ 2048) ⌝ }
+        requires { ⌜ (self .nodes + length (now names) ≤ maxNodes) × (self .edges + length (now names) ≤ maxEdges) ⌝ }
         ensures { λ r. ⌜ (r .table, r .node) ≡ grown self s (now (names .entry)) ⌝ }
     {
         let mut table = self;
@@ -295,7 +302,7 @@ impl SymbolTable {
 
     // One more node, below s by the name x.
     fn with_child(self, s: u16, x: u16, value: Data) -> SymbolTable
-        requires { ⌜ (self .nodes < 1024) × (self .edges < 2048) ⌝ }
+        requires { ⌜ (self .nodes < maxNodes) × (self .edges < maxEdges) ⌝ }
         ensures { λ r. ⌜ r ≡ inserted self s x (saysData value) ⌝ }
     {
         let node = self.nodes as u16;
@@ -304,7 +311,7 @@ impl SymbolTable {
 
     // One more node.
     fn with_node(mut self, value: Data) -> SymbolTable
-        requires { ⌜ self .nodes < 1024 ⌝ }
+        requires { ⌜ self .nodes < maxNodes ⌝ }
         ensures { λ r. ⌜ r ≡ withNode self (saysData value) ⌝ }
     {
         let node = self.nodes;
@@ -316,7 +323,7 @@ impl SymbolTable {
 
     // One more edge, from s under the name x to n.
     fn with_edge(mut self, s: u16, x: u16, n: u16) -> SymbolTable
-        requires { ⌜ self .edges < 2048 ⌝ }
+        requires { ⌜ self .edges < maxEdges ⌝ }
         ensures { λ r. ⌜ r ≡ withEdge self s x n ⌝ }
     {
         let at = WIDTH * self.edges;
@@ -329,7 +336,7 @@ impl SymbolTable {
 
     // Another number for a node, or none.
     fn with_data(mut self, nx: u16, value: Data) -> SymbolTable
-        requires { ⌜ nx < 1024 ⌝ }
+        requires { ⌜ nx < maxNodes ⌝ }
         ensures { λ r. ⌜ r ≡ withData self nx (saysData value) ⌝ }
     {
         let node = wide(nx);
@@ -380,8 +387,8 @@ fn answer(reached: Reached) -> Found
 }
 
 // The number of node nx, if it has one.
-fn number_at<'a>(known: &'a [bool; 1024], number: &'a [i64; 1024], nx: u16) -> Got
-    requires { ⌜ nx < 1024 ⌝ }
+fn number_at<'a>(known: &'a [bool; NODES], number: &'a [i64; NODES], nx: u16) -> Got
+    requires { ⌜ nx < maxNodes ⌝ }
     ensures { λ r. ⌜ saysGot r ≡ Done (numberAt (now (known .entry)) (now (number .entry)) nx) ⌝ }
 {
     let node = wide(nx);
@@ -420,7 +427,7 @@ fn wide(nx: u16) -> usize
 
 // Whether there is room for n more nodes and k more edges.
 fn has_room(nodes: usize, edges: usize, n: usize, k: usize) -> bool
-    requires { ⌜ (nodes ≤ 1024) × (edges ≤ 2048) ⌝ }
+    requires { ⌜ (nodes ≤ maxNodes) × (edges ≤ maxEdges) ⌝ }
     ensures { λ r. ⌜ r ≡ room (nodes + n) (edges + k) ⌝ }
 {
     if NODES - nodes < n {
@@ -430,8 +437,8 @@ fn has_room(nodes: usize, edges: usize, n: usize, k: usize) -> bool
 }
 
 // Whether the name leads elsewhere already; where nodes are missing, it leads nowhere.
-fn is_taken(links: &[u16; 6144], edges: usize, missing: usize, s: u16, x: u16, to: u16) -> bool
-    requires { ⌜ edges ≤ 2048 ⌝ }
+fn is_taken(links: &[u16; WORDS], edges: usize, missing: usize, s: u16, x: u16, to: u16) -> bool
+    requires { ⌜ edges ≤ maxEdges ⌝ }
     ensures { λ r. ⌜ r ≡ (eqb missing 0 && taken (edgesIn (now (links .entry)) edges) s x to) ⌝ }
 {
     if missing != 0 {
@@ -441,7 +448,7 @@ fn is_taken(links: &[u16; 6144], edges: usize, missing: usize, s: u16, x: u16, t
 }
 
 // Whether the table is sound, and nx a node of it.
-fn is_node(links: &[u16; 6144], edges: usize, nodes: usize, nx: u16) -> bool
+fn is_node(links: &[u16; WORDS], edges: usize, nodes: usize, nx: u16) -> bool
     ensures { λ r. ⌜ r ≡ (soundEdges nodes edges (edgesIn (now (links .entry)) edges) && ltb nx nodes) ⌝ }
 {
     if !soundness::is_sound(links, edges, nodes) {

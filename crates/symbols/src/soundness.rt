@@ -2,6 +2,7 @@
 // all nodes mark each node once.
 use crate::EDGES;
 use crate::NODES;
+use crate::WORDS;
 use crate::edges::Edge;
 use crate::edges::SUPER;
 use crate::edges::edge_at;
@@ -17,7 +18,7 @@ ghost use Rattle.symbols.specs.Symbols.{fits, allFit, allBelow, rooted, 
 ghost use Rattle.symbols.specs.Steps.{Parents, Small, Tells, Known};
 
 // Whether nodes and edges, n of them, are a sound table.
-pub fn is_sound(links: &[u16; 6144], n: usize, nodes: usize) -> bool
+pub fn is_sound(links: &[u16; WORDS], n: usize, nodes: usize) -> bool
     ensures { λ r. ⌜ r ≡ soundEdges nodes n (edgesIn (now (links .entry)) n) ⌝ }
 {
     if nodes < 1 {
@@ -38,7 +39,7 @@ pub fn is_sound(links: &[u16; 6144], n: usize, nodes: usize) -> bool
 }
 
 // Whether every edge joins two of the nodes, under a name, and none leads into the root.
-fn edges_fit(links: &[u16; 6144], n: usize, nodes: usize) -> bool
+fn edges_fit(links: &[u16; WORDS], n: usize, nodes: usize) -> bool
     requires { ⌜ n ≤ maxEdges ⌝ }
     ensures { λ r. ⌜ r ≡ allFit nodes (edgesIn (now (links .entry)) n) ⌝ }
 {
@@ -69,7 +70,7 @@ fn edge_fits(edge: Edge, nodes: usize) -> bool
 }
 
 // Of each node its parent's number and 1, or 0 where it has none.
-fn parents(links: &[u16; 6144], n: usize) -> [u16; NODES]
+fn parents(links: &[u16; WORDS], n: usize) -> [u16; NODES]
     requires { ⌜ (n ≤ maxEdges) × (allFit maxNodes (edgesIn (now links) n) ≡ true) ⌝ }
     ensures { λ r. ⌜ Parents r (edgesIn (now (links .entry)) n) ⌝ }
 {

@@ -7,8 +7,7 @@ use lib.ListN.{length, length-drop}
 use Rattle.refusals.specs.Answer.{Done}
 use Rattle.refusals.proofs.Pick.{at-false, granted, denied}
 use Rattle.symbols.specs.declared.SymbolTable.{SymbolTable}
-use Rattle.symbols.specs.Says.{leftNode}
-use Rattle.symbols.specs.Symbols.{grown, ensureIndex}
+use Rattle.symbols.specs.Symbols.{leftNode, grown, ensureIndex}
 use Rattle.symbols.proofs.Tables.{room-has}
 use Rattle.symbols.proofs.Calls.{fails-first, fails-then, holds-both, node-has, to-the-end, ensure-full, ensure-done}
 use borrow.Author.Needs.{needs}

@@ -1,8 +1,7 @@
 -- The tests of the arguments, and then the export from the deepest node that is there. Assumes nothing.
 use mathlib.Core.Path.{ap, _∙_}
 use Rattle.refusals.proofs.Pick.{at-false, granted, denied}
-use Rattle.symbols.specs.Says.{left}
-use Rattle.symbols.specs.Symbols.{export}
+use Rattle.symbols.specs.Symbols.{left, export}
 use Rattle.symbols.proofs.Calls.{fails-first, fails-then, holds-both, no-name, name, node-has, also-node, no-node, deepest-in, export-on}
 use borrow.Author.Needs.{needs}
 use Rattle.symbols.proofs.SymbolTable.export.Statement.{statement}

@@ -6,8 +6,7 @@ use borrow.Author.Tests.{lt-ltb}
 use Rattle.refusals.specs.Answer.{Done}
 use Rattle.refusals.proofs.Pick.{granted, denied}
 use Rattle.symbols.specs.declared.SymbolTable.{SymbolTable}
-use Rattle.symbols.specs.Says.{left}
-use Rattle.symbols.specs.Symbols.{withEdge, exported}
+use Rattle.symbols.specs.Symbols.{left, withEdge, exported}
 use Rattle.symbols.proofs.Tables.{room-has}
 use Rattle.symbols.proofs.Calls.{holds-both, node-has, grown-edges, export-loop, export-taken, export-full, export-done}
 use borrow.Author.Needs.{needs}

@@ -4,8 +4,7 @@ use native.Mathlib.Omega.{arith}
 use Rattle.refusals.specs.Answer.{Done}
 use Rattle.refusals.proofs.Pick.{at-true, at-false, granted, denied, passed, stopped}
 use Rattle.symbols.specs.declared.SymbolTable.{SymbolTable}
-use Rattle.symbols.specs.Says.{leftNode}
-use Rattle.symbols.specs.Symbols.{insert}
+use Rattle.symbols.specs.Symbols.{leftNode, insert}
 use Rattle.symbols.proofs.Tables.{room-has}
 use Rattle.symbols.proofs.Calls.{fails-first, fails-then, holds-both, no-name, name, node-has}
 use borrow.Author.Needs.{needs}

@@ -4,8 +4,7 @@ use native.Mathlib.Omega.{arith}
 use Rattle.refusals.specs.Answer.{Done}
 use Rattle.refusals.proofs.Pick.{granted, passed, stopped}
 use Rattle.symbols.specs.declared.SymbolTable.{SymbolTable}
-use Rattle.symbols.specs.Says.{left}
-use Rattle.symbols.specs.Symbols.{updateData}
+use Rattle.symbols.specs.Symbols.{left, updateData}
 use Rattle.symbols.proofs.Calls.{node-has}
 use borrow.Author.Needs.{needs}
 use Rattle.symbols.proofs.SymbolTable.update_data.Statement.{statement}
