@@ -1,9 +1,9 @@
-// Answers, as the Rust would, each question of 14 bytes on standard input: an operation, two u16, a byte, and eight bytes. 0 is
-// new, 1 insert (parent, id; whether there is a number; i64), 2 update_data (node; whether there is a number; i64), 3
-// ensure_index (node; how many ids; four ids), 4 export (node, parent; how many ids; four ids), 5 get (node), 6 child (node, id),
-// 7 parent (node), 8 try_index, 9 query and 10 query_all (node; how many ids; four ids). Id 0 is super. The table is kept from
-// question to question. An answer is a line: a node or `nothing`, a number or `unresolved`, `done`, of query_all the count and
-// the nodes, or `refused` and document 01's number.
+// Answers, as the Rust would, or as document 01 says where it adds a refusal, each question of 14 bytes on standard input: an
+// operation, two u16, a byte, and eight bytes. 0 is new, 1 insert (parent, id; whether there is a number; i64), 2 update_data
+// (node; whether there is a number; i64), 3 ensure_index (node; how many ids; four ids), 4 export (node, parent; how many ids;
+// four ids), 5 get (node), 6 child (node, id), 7 parent (node), 8 try_index, 9 query and 10 query_all (node; how many ids; four
+// ids). Id 0 is super. The table is kept from question to question. An answer is a line: a node or `nothing`, a number or
+// `unresolved`, `done`, of query_all the count and the nodes, or `refused` and document 01's number.
 use libc::STDIN_FILENO;
 use libc::STDOUT_FILENO;
 use refusals::Outcome;

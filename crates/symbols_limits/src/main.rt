@@ -34,16 +34,19 @@ fn print(question: &[u8]) {
     io::write_all(STDOUT_FILENO, b": ");
 }
 
+// Prints a word, and ends the line.
 fn print_word(word: &[u8]) {
     io::write_all(STDOUT_FILENO, word);
     io::write_all(STDOUT_FILENO, b"\n");
 }
 
+// Prints a number, and ends the line.
 fn print_number(number: u64) {
     io::print_decimal(STDOUT_FILENO, number);
     io::write_all(STDOUT_FILENO, b"\n");
 }
 
+// Prints a refusal.
 fn print_refused(number: u8) {
     io::write_all(STDOUT_FILENO, b"refused ");
     print_number(number as u64);
@@ -78,6 +81,7 @@ fn counted(question: &[u8], answer: Count) {
     }
 }
 
+// Prints a node that was made.
 fn print_node(answer: Node) {
     match answer {
         Node::Is(node) => print_number(node as u64),
@@ -93,6 +97,7 @@ fn made(question: &[u8], inserted: Inserted) -> SymbolTable {
     inserted.table
 }
 
+// Prints whether a call was done.
 fn print_outcome(answer: Outcome) {
     match answer {
         Outcome::Done => print_word(b"done"),
@@ -253,6 +258,7 @@ fn list_of(question: &[u8], table: SymbolTable, places: usize) {
     place(b"  place 1023", list[1023]);
 }
 
+// Prints what stands at a place of a list.
 fn place(question: &[u8], number: u16) {
     print(question);
     print_number(number as u64);

@@ -8,6 +8,7 @@ mod opcodes;
 mod program_counter;
 mod segment;
 mod source_map;
+mod symbols;
 mod text_encoding;
 
 use crate::random::Random;
@@ -38,6 +39,7 @@ pub fn all() -> Vec<Kind> {
         program_counter::kind(),
         segment::kind(),
         source_map::kind(),
+        symbols::kind(),
         text_encoding::kind(),
     ]
 }
