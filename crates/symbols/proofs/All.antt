@@ -22,29 +22,35 @@ use Rattle.symbols.proofs.Laws.{chain-alone, chain-rest}
 -- ---- one answer, for all that wait
 
 -- a part that is filled with one number
-pub part-filled : (xs ys : List ℕ) (a k e n : ℕ) → e ≡ a + k → e ≤ length xs → ys ≡ replicate (length (take (e - a) (drop a xs))) n
+pub part-filled : (xs ys : List ℕ) (a k e n : ℕ) → e ≡ a + k → e ≤ length xs
+    → ys ≡ replicate (length (take (e - a) (drop a xs))) n
     → take a xs ++ (ys ++ drop (e - a) (drop a xs)) ≡ over xs a (replicate k n)
 unfolding over
 part-filled xs ys a k e n end room filled =
     let so-many : e - a ≡ k = omega arith in
     let long : length (take k (drop a xs)) ≡ k = length-take-le k (drop a xs) (omega (arith, length-drop a xs)) in
-    let all : ys ≡ replicate k n = filled ∙ ap (λ (j : ℕ). replicate (length (take j (drop a xs))) n) so-many ∙ ap (λ (j : ℕ). replicate j n) long in
+    let all : ys ≡ replicate k n =
+    filled ∙ ap (λ (j : ℕ). replicate (length (take j (drop a xs))) n) so-many ∙ ap (λ (j : ℕ). replicate j n) long in
     let behind : drop (e - a) (drop a xs) ≡ drop (a + length (replicate k n)) xs =
     ap (λ (j : ℕ). drop j (drop a xs)) so-many ∙ drop-drop k a xs ∙ ap (λ (j : ℕ). drop (a + j) xs) (sym (length-replicate k n)) in
-    (λ i. take a xs ++ (all i ++ behind i)) ∙ sym (append-assoc (take a xs) (replicate k n) (drop (a + length (replicate k n)) xs))
+    (λ i. take a xs ++ (all i ++ behind i))
+    ∙ sym (append-assoc (take a xs) (replicate k n) (drop (a + length (replicate k n)) xs))
 
--- a scope's own answer is noted
+-- of a list and a tally before: the tally and the list after a scope's own answer
+abbrev pub Noted : List ℕ → Tally → Bool → Reached → Tally → List ℕ → Type 0
+Noted list t waits r u after =
+    (u ≡ tallied (saysReached r) waits t) × (after ≡ over list (t .written) (answers (saysReached r) (t .waiting + 1)))
+
 module _ (list : List ℕ) (t : Tally) (waits : Bool) {r : Reached} where
   pub noted-node : {n : ℕ} {after : List ℕ} → r ≡ reached.At n → after ≡ over list (t .written) (replicate (t .waiting + 1) n)
-      → (record { written = t .written + t .waiting + 1; waiting = 0 } ≡ tallied (saysReached r) waits t) × (after ≡ over list (t .written) (answers (saysReached r) (t .waiting + 1)))
+      → Noted list t waits r (record { written = t .written + t .waiting + 1; waiting = 0 }) after
   noted-node e f = rw e (refl, f)
 
   pub noted-none : r ≡ reached.Nothing → waits ≡ true
-      → (record { written = t .written; waiting = t .waiting + 1 } ≡ tallied (saysReached r) waits t) × (list ≡ over list (t .written) (answers (saysReached r) (t .waiting + 1)))
+      → Noted list t waits r (record { written = t .written; waiting = t .waiting + 1 }) list
   noted-none e h = rw (e, h) (refl, over-nothing list (t .written))
 
-  pub noted-alone : r ≡ reached.Nothing → waits ≡ false
-      → (t ≡ tallied (saysReached r) waits t) × (list ≡ over list (t .written) (answers (saysReached r) (t .waiting + 1)))
+  pub noted-alone : r ≡ reached.Nothing → waits ≡ false → Noted list t waits r t list
   noted-alone e h = rw (e, h) (refl, over-nothing list (t .written))
 
 -- so many answers and one more
@@ -70,7 +76,9 @@ module _ (es : List Edge) (path : List ℕ) (s : ℕ) (ss : List ℕ) (t : Tally
   split (some n) e = rw (e, answers-none (queryOn es path ss)) (answers-more (t .waiting) n (allOn es path ss))
   split none e = go (has 0 path) refl
     where
-      waiting : (q : Option ℕ) → answers q (t .waiting) ++ found q (allOn es path ss) (λ n. n ∷ allOn es path ss) ≡ answers q (t .waiting + 1) ++ allOn es path ss
+      waiting : (q : Option ℕ)
+          → answers q (t .waiting) ++ found q (allOn es path ss) (λ n. n ∷ allOn es path ss)
+          ≡ answers q (t .waiting + 1) ++ allOn es path ss
       waiting none = refl
       waiting (some n) = answers-more (t .waiting) n (allOn es path ss)
 
@@ -95,8 +103,11 @@ unfolding over
 listed-more l ys room =
     let rest : List ℕ = replicate (1024 - length l) 0 in
     let behind : drop (length l + length ys) (l ++ rest) ≡ replicate (1024 - length (l ++ ys)) 0 =
-    sym (drop-drop (length ys) (length l) (l ++ rest)) ∙ ap (drop (length ys)) (drop-at l rest (length l) refl) ∙ drop-replicate (length ys) (1024 - length l) 0
-    ∙ (let e : 1024 - length l - length ys ≡ 1024 - length (l ++ ys) = omega (arith, length-append l ys) in ap (λ (j : ℕ). replicate j 0) e) in
+    sym (drop-drop (length ys) (length l) (l ++ rest))
+    ∙ ap (drop (length ys)) (drop-at l rest (length l) refl)
+    ∙ drop-replicate (length ys) (1024 - length l) 0
+    ∙ (let e : 1024 - length l - length ys ≡ 1024 - length (l ++ ys) = omega (arith, length-append l ys) in
+    ap (λ (j : ℕ). replicate j 0) e) in
     (λ i. take-at l rest (length l) refl i ++ ys ++ behind i)
 
 -- ---- the loop
@@ -112,13 +123,15 @@ chain-long es (suc k) s = go (λ p. chain-long es k p) (parentOf es s)
     go ih none = omega arith
 
 -- how many answers a scope adds
-answers-long : (w : Option ℕ) (waits : Bool) (t : Tally) → t .written + length (answers w (t .waiting + 1)) ≡ tallied w waits t .written
+answers-long : (w : Option ℕ) (waits : Bool) (t : Tally)
+    → t .written + length (answers w (t .waiting + 1)) ≡ tallied w waits t .written
 answers-long (some n) waits t = omega (arith, length-replicate (t .waiting + 1) n)
 answers-long none true t = omega arith
 answers-long none false t = omega arith
 
 -- with each scope, one place more is spoken for at most
-tallied-less : (w : Option ℕ) (waits : Bool) (t : Tally) → tallied w waits t .written + tallied w waits t .waiting ≤ t .written + t .waiting + 1
+tallied-less : (w : Option ℕ) (waits : Bool) (t : Tally)
+    → tallied w waits t .written + tallied w waits t .waiting ≤ t .written + t .waiting + 1
 tallied-less (some n) waits t = omega arith
 tallied-less none true t = omega arith
 tallied-less none false t = omega arith
@@ -146,7 +159,8 @@ unfolding chain chainOf
 chain-some es s = omega arith
 
 module _ (es : List Edge) (path : List ℕ) (s : ℕ) where
-  pub ask-begins : Ends es s → {list : List ℕ} → list ≡ replicate 1024 0 → AskedTo es path s list s (record { written = 0; waiting = 0 })
+  pub ask-begins : Ends es s → {list : List ℕ} → list ≡ replicate 1024 0
+      → AskedTo es path s list s (record { written = 0; waiting = 0 })
   unfolding chain
   ask-begins ends e = record {
     so-far = [];
@@ -159,7 +173,8 @@ module _ (es : List Edge) (path : List ℕ) (s : ℕ) where
   }
 
   -- one scope is asked: its own answer, and the chain behind it
-  module _ {list : List ℕ} {at : ℕ} {t : Tally} (a : AskedTo es path s list at t) {w : Option ℕ} (own : walkOf es path at ≡ w) (ss : List ℕ) (here : chain es at ≡ at ∷ ss) where
+  module _ {list : List ℕ} {at : ℕ} {t : Tally} (a : AskedTo es path s list at t)
+      {w : Option ℕ} (own : walkOf es path at ≡ w) (ss : List ℕ) (here : chain es at ≡ at ∷ ss) where
     place : t .written + t .waiting < 1024
     place = omega (arith, a .room, ap (λ (l : List ℕ). length l) here)
 
@@ -169,14 +184,18 @@ module _ (es : List Edge) (path : List ℕ) (s : ℕ) where
 
     now-long : length now ≡ tallied w (not (has 0 path)) t .written
     unfolding now
-    now-long = length-append (a .so-far) (answers w (t .waiting + 1)) ∙ ap (λ (k : ℕ). k + length (answers w (t .waiting + 1))) (a .written) ∙ answers-long w (not (has 0 path)) t
+    now-long =
+        length-append (a .so-far) (answers w (t .waiting + 1))
+        ∙ ap (λ (k : ℕ). k + length (answers w (t .waiting + 1))) (a .written)
+        ∙ answers-long w (not (has 0 path)) t
 
     now-all : now ++ (answers (queryOn es path ss) (tallied w (not (has 0 path)) t .waiting) ++ allOn es path ss) ≡ allOf es s path
     unfolding now queryOf allOf
     now-all =
         append-assoc (a .so-far) (answers w (t .waiting + 1)) _
         ∙ ap (λ (l : List ℕ). a .so-far ++ l)
-        (sym (split es path at ss t (a .alone) w own) ∙ (λ i. answers (queryOn es path (sym here i)) (t .waiting) ++ allOn es path (sym here i)))
+        (sym (split es path at ss t (a .alone) w own)
+        ∙ (λ i. answers (queryOn es path (sym here i)) (t .waiting) ++ allOn es path (sym here i)))
         ∙ a .all
 
     now-listed : {after : List ℕ} → after ≡ over list (t .written) (answers w (t .waiting + 1)) → after ≡ listed now
@@ -197,8 +216,8 @@ module _ (es : List Edge) (path : List ℕ) (s : ℕ) where
     pub ask-room : t .written + t .waiting < length list
     ask-room = omega (arith, a .room, chain-some es at, ask-length)
 
-    module _ (r : Reached) (own : saysReached r ≡ walkOf es path at) {waits : Bool} (super : waits ≡ has 0 path) {u : Tally} {after : List ℕ}
-        (noted : (u ≡ tallied (saysReached r) (not waits) t) × (after ≡ over list (t .written) (answers (saysReached r) (t .waiting + 1)))) where
+    module _ (r : Reached) (own : saysReached r ≡ walkOf es path at) {waits : Bool} (super : waits ≡ has 0 path)
+        {u : Tally} {after : List ℕ} (noted : Noted list t (not waits) r u after) where
       tally-now : u ≡ tallied (saysReached r) (not (has 0 path)) t
       tally-now = noted .0 ∙ ap (λ (b : Bool). tallied (saysReached r) (not b) t) super
 
@@ -222,7 +241,10 @@ module _ (es : List Edge) (path : List ℕ) (s : ℕ) where
               ap (λ (v : Tally). v .waiting) tally-now,
               ap (λ (l : List ℕ). length l) (above .1),
             );
-            all = ap (λ (v : Tally). now a (sym own) ss (above .1) ++ (answers (queryOn es path ss) (v .waiting) ++ allOn es path ss)) tally-now ∙ now-all a (sym own) ss (above .1);
+            all =
+                ap (λ (v : Tally). now a (sym own) ss (above .1) ++ (answers (queryOn es path ss) (v .waiting) ++ allOn es path ss))
+                tally-now
+                ∙ now-all a (sym own) ss (above .1);
           }
 
       -- there is none above

@@ -94,7 +94,8 @@ to-the-end path d = ap (λ (k : ℕ). take k (drop d path)) (sym (length-drop d 
 
 module _ (t : SymbolTable) (s : ℕ) (path : List ℕ) {p : ℕ × List ℕ} {m : ℕ}
     (in-range : (isNode t s && isNewPath path) ≡ true) (there : p ≡ deepest (edgesOf t) s path) (missing : m ≡ length (p .1)) where
-  same-room : room (t .nodes + m) (t .edges + m) ≡ room (t .nodes + length (deepest (edgesOf t) s path .1)) (t .edges + length (deepest (edgesOf t) s path .1))
+  same-room : let missing = length (deepest (edgesOf t) s path .1) in
+      room (t .nodes + m) (t .edges + m) ≡ room (t .nodes + missing) (t .edges + missing)
   same-room = ap (λ (k : ℕ). room (t .nodes + k) (t .edges + k)) (missing ∙ ap (λ (q : ℕ × List ℕ). length (q .1)) there)
 
   pub ensure-full : room (t .nodes + m) (t .edges + m) ≡ false → Refused noRoom ≡ ensureIndex t s path
@@ -103,7 +104,8 @@ module _ (t : SymbolTable) (s : ℕ) (path : List ℕ) {p : ℕ × List ℕ} {m 
 
   pub ensure-done : room (t .nodes + m) (t .edges + m) ≡ true → Done (grown t (p .0) (p .1)) ≡ ensureIndex t s path
   unfolding ensureIndex
-  ensure-done h = ap (λ (q : ℕ × List ℕ). Done (grown t (q .0) (q .1))) there ∙ at-true _ _ (sym same-room ∙ h) ∙ at-true _ _ in-range
+  ensure-done h =
+      ap (λ (q : ℕ × List ℕ). Done (grown t (q .0) (q .1))) there ∙ at-true _ _ (sym same-room ∙ h) ∙ at-true _ _ in-range
 
 -- ---- export
 
@@ -117,7 +119,8 @@ deepest-node es n s (x ∷ path) ok l = go (λ c. deepest-node es n c path ok) (
     go ih none e = rw e l
     go ih (some c) e = rw e (ih c (fit-child es n s x c ok e))
 
-pub deepest-in : (n k : ℕ) (es : List Edge) (s : ℕ) (path : List ℕ) → (soundEdges n k es && ltb s n) ≡ true → {p : ℕ × List ℕ} → p ≡ deepest es s path
+pub deepest-in : (n k : ℕ) (es : List Edge) (s : ℕ) (path : List ℕ) → (soundEdges n k es && ltb s n) ≡ true → {p : ℕ × List ℕ}
+    → p ≡ deepest es s path
     → (soundEdges n k es ≡ true) × (p .0 < n)
 deepest-in n k es s path h there =
     let a = and-eq-true-iff (soundEdges n k es) (ltb s n) .0 h in
@@ -141,11 +144,13 @@ module _ (t : SymbolTable) (n d : ℕ) (names : List ℕ) (x : ℕ) where
     export-taken h = at-true _ _ h ∙ at-false _ _ off
 
     module _ (free : (eqb (length names) 0 && taken (edgesOf t) d x n) ≡ false) where
-      pub export-full : room (t .nodes + length names) (t .edges + (length names + 1)) ≡ false → Refused noRoom ≡ exportFrom t n (d, names) x
+      pub export-full : room (t .nodes + length names) (t .edges + (length names + 1)) ≡ false
+          → Refused noRoom ≡ exportFrom t n (d, names) x
       unfolding exportFrom
       export-full h = at-false _ _ h ∙ at-false _ _ free ∙ at-false _ _ off
 
-      pub export-done : room (t .nodes + length names) (t .edges + (length names + 1)) ≡ true → Done (exported t n (d, names) x) ≡ exportFrom t n (d, names) x
+      pub export-done : room (t .nodes + length names) (t .edges + (length names + 1)) ≡ true
+          → Done (exported t n (d, names) x) ≡ exportFrom t n (d, names) x
       unfolding exportFrom
       export-done h = at-true _ _ h ∙ at-false _ _ free ∙ at-false _ _ off
 
@@ -154,12 +159,15 @@ pub part : (path : List ℕ) (d k : ℕ) → d ≤ k → k ≤ length path → d
 part path zero k l h = let e : k ≡ k - 0 = omega arith in ap (λ (j : ℕ). take j path) e
 part path (suc d) zero l h = absurd (not-suc-le-zero l)
 part [] (suc d) (suc k) l h = absurd (not-suc-le-zero h)
-part (x ∷ path) (suc d) (suc k) l h = part path d k (omega arith) (omega arith) ∙ (let e : k - d ≡ suc k - suc d = omega arith in ap (λ (j : ℕ). take j (drop d path)) e)
+part (x ∷ path) (suc d) (suc k) l h =
+    part path d k (omega arith) (omega arith)
+    ∙ (let e : k - d ≡ suc k - suc d = omega arith in ap (λ (j : ℕ). take j (drop d path)) e)
 
 -- what export does behind its first tests: of the path's front, i ids are there, down to d
 module _ (t : SymbolTable) (n s : ℕ) (path : List ℕ) (d i : ℕ) where
   on-from : (isNode t s && isNode t n && isNewPath path && ltb 0 (length path)) ≡ true → i ≤ length (front path)
-      → (d, drop i (front path)) ≡ deepest (edgesOf t) s (front path) → exportFrom t n (d, take (length path - 1 - i) (drop i path)) (lastId path) ≡ export t n s path
+      → (d, drop i (front path)) ≡ deepest (edgesOf t) s (front path)
+      → exportFrom t n (d, take (length path - 1 - i) (drop i path)) (lastId path) ≡ export t n s path
   unfolding export
   on-from in-range few there =
       let names = part path i (length path - 1) (omega (arith, few, length-take-le (length path - 1) path (omega arith))) (omega arith) in
@@ -168,7 +176,8 @@ module _ (t : SymbolTable) (n s : ℕ) (path : List ℕ) (d i : ℕ) where
       ∙ at-true _ _ in-range
 
   -- the front as the part from 0 on
-  pub export-on : (isNode t s && isNode t n && isNewPath path && ltb 0 (length path)) ≡ true → i ≤ length (take (length path - 1 - 0) path)
+  pub export-on : (isNode t s && isNode t n && isNewPath path && ltb 0 (length path)) ≡ true
+      → i ≤ length (take (length path - 1 - 0) path)
       → (d, drop i (take (length path - 1 - 0) path)) ≡ deepest (edgesOf t) s (take (length path - 1 - 0) path)
       → exportFrom t n (d, take (length path - 1 - i) (drop i path)) (lastId path) ≡ export t n s path
   export-on = let same : length path - 1 - 0 ≡ length path - 1 = omega arith in rw same on-from

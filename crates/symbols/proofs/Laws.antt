@@ -33,7 +33,8 @@ module _ (links : List ℕ) (i : ℕ) (h : 0 < i) {e : Edge} (is : e ≡ edgeAt 
   unfolding childOf
   child-other s x p = rw edges-down (rw (ne-eqb _ _ p))
 
-  pub child-unnamed : {s x : ℕ} → e .from ≡ s → (e .id ≡ x → ⊥) → childOf (edgesIn links i) s x ≡ childOf (edgesIn links (i - 1)) s x
+  pub child-unnamed : {s x : ℕ} → e .from ≡ s → (e .id ≡ x → ⊥)
+      → childOf (edgesIn links i) s x ≡ childOf (edgesIn links (i - 1)) s x
   unfolding childOf
   child-unnamed p q = rw edges-down (rw (eq-eqb _ _ p, ne-eqb _ _ q))
 
@@ -128,12 +129,14 @@ module _ (es : List Edge) (top : parentOf es 0 ≡ none) where
   stable zero s r = never (cc)
   stable (suc k) s r = go (λ p. stable k p) (parentOf es s) refl
     where
-      go : ((p : ℕ) → has 0 (chainOf es k p) ≡ true → chainOf es (suc k) p ≡ chainOf es k p) → (f : Option ℕ) → parentOf es s ≡ f → chainOf es (suc (suc k)) s ≡ chainOf es (suc k) s
+      go : ((p : ℕ) → has 0 (chainOf es k p) ≡ true → chainOf es (suc k) p ≡ chainOf es k p) → (f : Option ℕ)
+          → parentOf es s ≡ f → chainOf es (suc (suc k)) s ≡ chainOf es (suc k) s
       go ih none e = rw e
       go ih (some p) e = rw e (ap (λ (l : List ℕ). s ∷ l) (ih p (has-rest 0 s (chainOf es k p) (rw e at r) (below-root s e))))
 
   -- the chain of a parent is the rest of the chain
-  pub chain-up : (k s : ℕ) {p : ℕ} → has 0 (chainOf es k s) ≡ true → parentOf es s ≡ some p → (has 0 (chainOf es k p) ≡ true) × (chainOf es k s ≡ s ∷ chainOf es k p)
+  pub chain-up : (k s : ℕ) {p : ℕ} → has 0 (chainOf es k s) ≡ true → parentOf es s ≡ some p
+      → (has 0 (chainOf es k p) ≡ true) × (chainOf es k s ≡ s ∷ chainOf es k p)
   unfolding chainOf has
   chain-up zero s r e = never (cc)
   chain-up (suc k) s {p} r e =
@@ -172,7 +175,8 @@ module _ (es : List Edge) (s : ℕ) (r : rooted es s ≡ true) where
     unfolding queryOf queryOn
     query-super w h = rw (chain-first .1, w, h)
 
-    pub query-up : {p : ℕ} → parentOf es 0 ≡ none → walkOf es path s ≡ none → has 0 path ≡ false → parentOf es s ≡ some p → queryOf es s path ≡ queryOf es p path
+    pub query-up : {p : ℕ} → parentOf es 0 ≡ none → walkOf es path s ≡ none → has 0 path ≡ false → parentOf es s ≡ some p
+        → queryOf es s path ≡ queryOf es p path
     unfolding queryOf queryOn
     query-up top w h e = rw (chain-rest top e .1, w, h)
 
@@ -199,7 +203,8 @@ module _ (es : List Edge) (s : ℕ) (r : rooted es s ≡ true) where
 
 -- ---- three words
 
-pub three-stores : (m : List ℕ) (at : ℕ) → at + 3 ≤ length m → (a b d : ℕ) → set (set (set m at a) (at + 1) b) (at + 2) d ≡ over m at (a ∷ b ∷ d ∷ [])
+pub three-stores : (m : List ℕ) (at : ℕ) → at + 3 ≤ length m → (a b d : ℕ)
+    → set (set (set m at a) (at + 1) b) (at + 2) d ≡ over m at (a ∷ b ∷ d ∷ [])
 unfolding over
 three-stores m at room a b d =
     let second : at + 1 ≡ suc at = omega arith in

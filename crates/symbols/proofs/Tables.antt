@@ -51,20 +51,30 @@ module _ (known : List Bool) (number : List ℤ) (s : ℕ) {v : ℕ} (is : v ≡
 
 -- ---- a changed table
 
-module _ (t : SymbolTable) (d : Option ℤ) {b : Bool} {z : ℤ} (known : b ≡ isKnown d) (number : z ≡ numberOr0 d) where
-  pub node-more : record { nodes = t .nodes + 1; edges = t .edges; links = t .links; known = set (t .known) (t .nodes) b; number = set (t .number) (t .nodes) z } ≡ withNode t d
-  unfolding withNode
-  node-more i = record { nodes = t .nodes + 1; edges = t .edges; links = t .links; known = set (t .known) (t .nodes) (known i); number = set (t .number) (t .nodes) (number i) }
+-- a table by its parts
+abbrev table : ℕ → ℕ → List ℕ → List Bool → List ℤ → SymbolTable
+table nodes edges links known number = record { nodes = nodes; edges = edges; links = links; known = known; number = number }
 
-  pub data-anew : {v n : ℕ} → v ≡ n → record { nodes = t .nodes; edges = t .edges; links = t .links; known = set (t .known) v b; number = set (t .number) v z } ≡ withData t n d
+module _ (t : SymbolTable) (d : Option ℤ) {b : Bool} {z : ℤ} (known : b ≡ isKnown d) (number : z ≡ numberOr0 d) where
+  pub node-more :
+      table (t .nodes + 1) (t .edges) (t .links) (set (t .known) (t .nodes) b) (set (t .number) (t .nodes) z) ≡ withNode t d
+  unfolding withNode
+  node-more i =
+      table (t .nodes + 1) (t .edges) (t .links) (set (t .known) (t .nodes) (known i)) (set (t .number) (t .nodes) (number i))
+
+  pub data-anew : {v n : ℕ} → v ≡ n
+      → table (t .nodes) (t .edges) (t .links) (set (t .known) v b) (set (t .number) v z) ≡ withData t n d
   unfolding withData
-  data-anew e i = record { nodes = t .nodes; edges = t .edges; links = t .links; known = set (t .known) (e i) (known i); number = set (t .number) (e i) (number i) }
+  data-anew e i =
+      table (t .nodes) (t .edges) (t .links) (set (t .known) (e i) (known i)) (set (t .number) (e i) (number i))
 
 module _ (t : SymbolTable) where
-  pub edge-more : (s x n : ℕ) → t .edges < 2048 → length (t .links) ≡ 6144
-      → record { nodes = t .nodes; edges = t .edges + 1; links = set (set (set (t .links) (3 * t .edges) s) (3 * t .edges + 1) x) (3 * t .edges + 2) n; known = t .known; number = t .number } ≡ withEdge t s x n
+  pub edge-more : (s x n : ℕ) → t .edges < 2048 → length (t .links) ≡ 6144 → let at = 3 * t .edges in
+      table (t .nodes) (t .edges + 1) (set (set (set (t .links) at s) (at + 1) x) (at + 2) n) (t .known) (t .number)
+      ≡ withEdge t s x n
   unfolding withEdge
-  edge-more s x n h size i = record { nodes = t .nodes; edges = t .edges + 1; links = three-stores (t .links) (3 * t .edges) (omega arith) s x n i; known = t .known; number = t .number }
+  edge-more s x n h size i =
+      table (t .nodes) (t .edges + 1) (three-stores (t .links) (3 * t .edges) (omega arith) s x n i) (t .known) (t .number)
 
   pub node-edges : (d : Option ℤ) → withNode t d .edges ≡ t .edges
   unfolding withNode

@@ -61,36 +61,59 @@ query-enum-known-up t c = search needs
 
 query-query-requires : (t : ℕ) → query-lts.Need-query-requires (calls t) (query-at t) query.Post
 query-query-requires t c κs =
-    let at-entry = c .before .before .before .before .before .before .before .before .before .before in
+    let next = c .before in
+    let asked = next .before .before in
+    let at-entry = asked .before .before .before .before .before .before .before in
     let ends = at-entry .pre .1 .1 in
-    let up = laws.reached-node (c .before .before .before .parent .ensures) (c .before .up .given .1) in
-    (omega (arith, laws.chain-falls _ _ (ends .1) (ends .0) up, at-entry .pre .0), (at-entry .pre .1 .0, (ends .0, laws.chain-rest _ _ (ends .1) (ends .0) up .0)))
+    let up = laws.reached-node (asked .parent .ensures) (next .up .given .1) in
+    let shorter = laws.chain-falls _ _ (ends .1) (ends .0) up in
+    (omega (arith, shorter, at-entry .pre .0), (at-entry .pre .1 .0, (ends .0, laws.chain-rest _ _ (ends .1) (ends .0) up .0)))
 
 query-enum-told-2 : (t : ℕ) → query-lts.Need-enum-told-2 (calls t) (query-at t) query.Post
 query-enum-told-2 t c = search needs
 
 query-returns : (t : ℕ) → query-lts.Need-returns (calls t) (query-at t) query.Post
-query-returns t c = sym (laws.query-here _ _ (c .before .before .before .before .before .pre .1 .1 .1) _ (laws.reached-node (c .before .before .before .walk .ensures) (c .before .node .given .1)))
+query-returns t c =
+    let found = c .before in
+    let walked = found .before .before in
+    let at-entry = walked .before .before in
+    let here = laws.reached-node (walked .walk .ensures) (found .node .given .1) in
+    sym (laws.query-here _ _ (at-entry .pre .1 .1 .1) _ here)
 
 query-returns-2 : (t : ℕ) → query-lts.Need-returns-2 (calls t) (query-at t) query.Post
 query-returns-2 t c =
-    sym
-    (laws.query-super _ _ (c .before .before .before .before .before .before .pre .1 .1 .1) _ (laws.reached-none (c .before .before .before .before .walk .ensures) (c .before .before .enum-told .given .1))
-    (sym (c .before .has-super .ensures) ∙ c .if1 .taken))
+    let asked = c .before in
+    let told = asked .before in
+    let walked = told .before .before in
+    let at-entry = walked .before .before in
+    let not-here = laws.reached-none (walked .walk .ensures) (told .enum-told .given .1) in
+    sym (laws.query-super _ _ (at-entry .pre .1 .1 .1) _ not-here (sym (asked .has-super .ensures) ∙ c .if1 .taken))
 
 query-returns-3 : (t : ℕ) → query-lts.Need-returns-3 (calls t) (query-at t) query.Post
 query-returns-3 t c =
-    let ends = c .before .before .before .before .before .before .before .before .before .before .before .pre .1 .1 in
-    c .query .ensures
-    ∙ sym
-    (laws.query-up _ _ (ends .1) _ (ends .0) (laws.reached-none (c .before .before .before .before .before .before .before .before .before .walk .ensures) (c .before .before .before .before .before .before .before .enum-told .given .1))
-    (sym (c .before .before .before .before .before .before .has-super .ensures) ∙ c .before .before .before .before .before .if1 .left) (laws.reached-node (c .before .before .before .before .parent .ensures) (c .before .before .up .given .1)))
+    let next = c .before .before in
+    let climbed = next .before .before in
+    let named = climbed .before in
+    let told = named .before .before in
+    let walked = told .before .before in
+    let at-entry = walked .before .before in
+    let ends = at-entry .pre .1 .1 in
+    let not-here = laws.reached-none (walked .walk .ensures) (told .enum-told .given .1) in
+    let no-super = sym (named .before .has-super .ensures) ∙ named .if1 .left in
+    let up = laws.reached-node (climbed .parent .ensures) (next .up .given .1) in
+    c .query .ensures ∙ sym (laws.query-up _ _ (ends .1) _ (ends .0) not-here no-super up)
 
 query-returns-4 : (t : ℕ) → query-lts.Need-returns-4 (calls t) (query-at t) query.Post
 query-returns-4 t c =
-    sym
-    (laws.query-top _ _ (c .before .before .before .before .before .before .before .before .before .pre .1 .1 .1) _ (laws.reached-none (c .before .before .before .before .before .before .before .walk .ensures) (c .before .before .before .before .before .enum-told .given .1))
-    (sym (c .before .before .before .before .has-super .ensures) ∙ c .before .before .before .if1 .left) (laws.reached-none (c .before .before .parent .ensures) (c .enum-told2 .given .1)))
+    let climbed = c .before .before in
+    let named = climbed .before in
+    let told = named .before .before in
+    let walked = told .before .before in
+    let at-entry = walked .before .before in
+    let not-here = laws.reached-none (walked .walk .ensures) (told .enum-told .given .1) in
+    let no-super = sym (named .before .has-super .ensures) ∙ named .if1 .left in
+    let top = laws.reached-none (climbed .parent .ensures) (c .enum-told2 .given .1) in
+    sym (laws.query-top _ _ (at-entry .pre .1 .1 .1) _ not-here no-super top)
 
 pub +query-spec : {M : Type 1} → statement M
 +query-spec = close μ-query λ t. query-lts.spec

@@ -34,7 +34,12 @@ enum-told : tie.Need-enum-told Inv-loop μ-loop
 enum-told c = search needs
 
 returns : tie.Need-returns Inv-loop μ-loop
-returns c = (omega (arith, c .before .before .before .before .before .loop .inv .0), laws.no-deeper _ _ (c .before .before .before .before .loop-test .taken) _ _ (laws.reached-none (c .before .before .child .ensures) (c .enum-told .given .1)) ∙ sym (c .before .before .before .before .before .loop .inv .1))
+returns c =
+    let asked = c .before .before in
+    let turn = asked .before .before in
+    let at-loop = turn .before in
+    let missing = laws.reached-none (asked .child .ensures) (c .enum-told .given .1) in
+    (omega (arith, at-loop .loop .inv .0), laws.no-deeper _ _ (turn .loop-test .taken) _ _ missing ∙ sym (at-loop .loop .inv .1))
 
 add-depth : tie.Need-add-depth Inv-loop μ-loop
 add-depth c = search needs
@@ -43,10 +48,20 @@ loop-less : tie.Need-loop-less Inv-loop μ-loop
 loop-less c = search needs
 
 loop-again : tie.Need-loop-again Inv-loop μ-loop
-loop-again c = (search needs, c .before .before .before .before .before .before .loop .inv .1 ∙ laws.deeper _ _ (c .before .before .before .before .before .loop-test .taken) _ _ (laws.reached-node (c .before .before .before .child .ensures) (c .before .next .given .1)))
+loop-again c =
+    let next = c .before in
+    let asked = next .before .before in
+    let turn = asked .before .before in
+    let at-loop = turn .before in
+    let there = laws.reached-node (asked .child .ensures) (next .next .given .1) in
+    (search needs, at-loop .loop .inv .1 ∙ laws.deeper _ _ (turn .loop-test .taken) _ _ there)
 
 returns-2 : tie.Need-returns-2 Inv-loop μ-loop
-returns-2 c = (c .before .loop .inv .0, laws.deepest-end _ _ (c .before .loop .inv .0) (c .loop-test .left) _ _ ∙ sym (c .before .loop .inv .1))
+returns-2 c =
+    let at-loop = c .before in (
+      at-loop .loop .inv .0,
+      laws.deepest-end _ _ (at-loop .loop .inv .0) (c .loop-test .left) _ _ ∙ sym (at-loop .loop .inv .1),
+    )
 
 pub deepest-spec : {M : Type 1} → statement M
 deepest-spec =

@@ -24,7 +24,10 @@ shared-slice-read-if1 : tie.Need-shared-slice-read-if1 Inv-loop μ-loop
 shared-slice-read-if1 c = search needs
 
 returns : tie.Need-returns Inv-loop μ-loop
-returns c = sym (c .before .before .before .loop .inv .1 ∙ laws.has-here _ _ (c .before .before .loop-test .taken) (c .if1 .taken))
+returns c =
+    let turn = c .before .before in
+    let at-loop = turn .before in
+    sym (at-loop .loop .inv .1 ∙ laws.has-here _ _ (turn .loop-test .taken) (c .if1 .taken))
 
 add-i : tie.Need-add-i Inv-loop μ-loop
 add-i c = search needs
@@ -33,10 +36,15 @@ loop-less : tie.Need-loop-less Inv-loop μ-loop
 loop-less c = search needs
 
 loop-again : tie.Need-loop-again Inv-loop μ-loop
-loop-again c = (search needs, c .before .before .before .loop .inv .1 ∙ laws.has-later _ _ (c .before .before .loop-test .taken) (c .if1 .left))
+loop-again c =
+    let turn = c .before .before in
+    let at-loop = turn .before in
+    (search needs, at-loop .loop .inv .1 ∙ laws.has-later _ _ (turn .loop-test .taken) (c .if1 .left))
 
 returns-2 : tie.Need-returns-2 Inv-loop μ-loop
-returns-2 c = sym (c .before .loop .inv .1 ∙ laws.has-end _ _ (c .before .loop .inv .0) (c .loop-test .left))
+returns-2 c =
+    let at-loop = c .before in
+    sym (at-loop .loop .inv .1 ∙ laws.has-end _ _ (at-loop .loop .inv .0) (c .loop-test .left))
 
 pub has-super-spec : {M : Type 1} → statement M
 has-super-spec =

@@ -27,17 +27,33 @@ leads-elsewhere-requires : tie.Need-leads-elsewhere-requires Inv-loop μ-loop
 leads-elsewhere-requires c κs = search needs
 
 returns : tie.Need-returns Inv-loop μ-loop
-returns c = sym (c .before .before .before .before .loop .inv .1 ∙ laws.taken-here _ _ (c .before .before .before .loop-test .taken) (c .before .before .edge-at .ensures) _ _ _ (sym (c .before .leads-elsewhere .ensures) ∙ c .if1 .taken))
+returns c =
+    let told = c .before in
+    let turn = told .before .before in
+    let at-loop = turn .before in
+    let elsewhere = sym (told .leads-elsewhere .ensures) ∙ c .if1 .taken in
+    sym (at-loop .loop .inv .1 ∙ laws.taken-here _ _ (turn .loop-test .taken) (told .before .edge-at .ensures) _ _ _ elsewhere)
 
 loop-less : tie.Need-loop-less Inv-loop μ-loop
 loop-less c = search needs
 
 loop-again : tie.Need-loop-again Inv-loop μ-loop
-loop-again c = (search needs, c .before .before .before .before .loop .inv .1 ∙ laws.taken-other _ _ (c .before .before .before .loop-test .taken) (c .before .before .edge-at .ensures) _ _ _ (sym (c .before .leads-elsewhere .ensures) ∙ c .if1 .left))
+loop-again c =
+    let told = c .before in
+    let turn = told .before .before in
+    let at-loop = turn .before in
+    let not-elsewhere = sym (told .leads-elsewhere .ensures) ∙ c .if1 .left in (
+      search needs,
+      at-loop .loop .inv .1
+          ∙ laws.taken-other _ _ (turn .loop-test .taken) (told .before .edge-at .ensures) _ _ _ not-elsewhere,
+    )
 
 returns-2 : tie.Need-returns-2 Inv-loop μ-loop
 unfolding taken edgesIn
-returns-2 c = let none-left : c .before .loop .i ≡ 0 = omega arith in sym (c .before .loop .inv .1 ∙ rw none-left)
+returns-2 c =
+    let at-loop = c .before in
+    let none-left : at-loop .loop .i ≡ 0 = omega arith in
+    sym (at-loop .loop .inv .1 ∙ rw none-left)
 
 pub is-taken-spec : {M : Type 1} → statement M
 is-taken-spec =

@@ -41,10 +41,13 @@ same-length c = search needs
 
 returns : tie.Need-returns
 returns c =
-    let tally = c .before .before .before .before .before .before .before .before .before .args .tally in
-    let node = c .before .before .before .before .before .before .reached .given .1 in
-    let part = laws.part-filled (c .before .before .before .before .before .before .before .before .before .args .list .now) _ (tally .written) (tally .waiting + 1) (tally .written + tally .waiting + 1) _ (omega arith) (omega arith) in
-    laws.noted-node _ _ _ node (part (c .before .before .fill .ensures))
+    let filled = c .before .before in
+    let told = filled .before .before .before .before in
+    let at-entry = told .before .before .before in
+    let tally = at-entry .args .tally in
+    let end = tally .written + tally .waiting + 1 in
+    let part = laws.part-filled (at-entry .args .list .now) _ (tally .written) (tally .waiting + 1) end _ (omega arith) (omega arith) in
+    laws.noted-node _ _ _ (told .reached .given .1) (part (filled .fill .ensures))
 
 returns-2 : tie.Need-returns-2
 returns-2 c = laws.noted-none _ _ _ (c .before .before .enum-told .given .1) (c .before .if1 .taken)

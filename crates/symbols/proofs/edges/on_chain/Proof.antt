@@ -27,16 +27,41 @@ enum-told : tie.Need-enum-told Inv-loop μ-loop
 enum-told c = search needs
 
 returns : tie.Need-returns Inv-loop μ-loop
-returns c = let at-loop = c .before .before .before .before .loop .inv in sym (at-loop .1 ∙ laws.on-top _ _ (at-loop .0 .1) (c .before .before .before .loop-test .taken) (laws.reached-none (c .before .before .parent .ensures) (c .enum-told .given .1)))
+returns c =
+    let asked = c .before .before in
+    let turn = asked .before in
+    let at-loop = turn .before in
+    let kept = at-loop .loop .inv in
+    let top = laws.reached-none (asked .parent .ensures) (c .enum-told .given .1) in
+    sym (kept .1 ∙ laws.on-top _ _ (kept .0 .1) (turn .loop-test .taken) top)
 
 loop-less : tie.Need-loop-less Inv-loop μ-loop
-loop-less c = let at-loop = c .before .before .before .before .before .loop .inv in laws.chain-falls _ _ (at-loop .0 .1) (at-loop .0 .0) (laws.reached-node (c .before .before .before .parent .ensures) (c .before .up .given .1))
+loop-less c =
+    let next = c .before in
+    let asked = next .before .before in
+    let at-loop = asked .before .before in
+    let ends = at-loop .loop .inv .0 in
+    laws.chain-falls _ _ (ends .1) (ends .0) (laws.reached-node (asked .parent .ensures) (next .up .given .1))
 
 loop-again : tie.Need-loop-again Inv-loop μ-loop
-loop-again c = let at-loop = c .before .before .before .before .before .loop .inv in let up = laws.reached-node (c .before .before .before .parent .ensures) (c .before .up .given .1) in ((at-loop .0 .0, laws.chain-rest _ _ (at-loop .0 .1) (at-loop .0 .0) up .0), at-loop .1 ∙ laws.on-up _ _ (at-loop .0 .1) (at-loop .0 .0) (c .before .before .before .before .loop-test .taken) up)
+loop-again c =
+    let next = c .before in
+    let asked = next .before .before in
+    let turn = asked .before in
+    let at-loop = turn .before in
+    let kept = at-loop .loop .inv in
+    let ends = kept .0 in
+    let up = laws.reached-node (asked .parent .ensures) (next .up .given .1) in (
+      (ends .0, laws.chain-rest _ _ (ends .1) (ends .0) up .0),
+      kept .1
+          ∙ laws.on-up _ _ (ends .1) (ends .0) (turn .loop-test .taken) up,
+    )
 
 returns-2 : tie.Need-returns-2 Inv-loop μ-loop
-returns-2 c = let at-loop = c .before .loop .inv in sym (at-loop .1 ∙ laws.on-here _ _ (at-loop .0 .1) (c .loop-test .left))
+returns-2 c =
+    let at-loop = c .before in
+    let kept = at-loop .loop .inv in
+    sym (kept .1 ∙ laws.on-here _ _ (kept .0 .1) (c .loop-test .left))
 
 pub on-chain-spec : {M : Type 1} → statement M
 on-chain-spec =

@@ -24,17 +24,31 @@ edge-at-requires : tie.Need-edge-at-requires Inv-loop μ-loop
 edge-at-requires c κs = search needs
 
 returns : tie.Need-returns Inv-loop μ-loop
-returns c = sym (c .before .before .before .before .loop .inv .1 ∙ laws.parent-here _ _ (c .before .before .before .loop-test .taken) (c .before .before .edge-at .ensures) (c .if1 .taken))
+returns c =
+    let edge = c .before .before in
+    let turn = edge .before in
+    let at-loop = turn .before in
+    sym (at-loop .loop .inv .1 ∙ laws.parent-here _ _ (turn .loop-test .taken) (edge .edge-at .ensures) (c .if1 .taken))
 
 loop-less : tie.Need-loop-less Inv-loop μ-loop
 loop-less c = search needs
 
 loop-again : tie.Need-loop-again Inv-loop μ-loop
-loop-again c = (search needs, c .before .before .before .before .loop .inv .1 ∙ laws.parent-other _ _ (c .before .before .before .loop-test .taken) (c .before .before .edge-at .ensures) (c .if1 .left))
+loop-again c =
+    let edge = c .before .before in
+    let turn = edge .before in
+    let at-loop = turn .before in (
+      search needs,
+      at-loop .loop .inv .1
+          ∙ laws.parent-other _ _ (turn .loop-test .taken) (edge .edge-at .ensures) (c .if1 .left),
+    )
 
 returns-2 : tie.Need-returns-2 Inv-loop μ-loop
 unfolding parentOf edgesIn
-returns-2 c = let none-left : c .before .loop .i ≡ 0 = omega arith in sym (c .before .loop .inv .1 ∙ rw none-left)
+returns-2 c =
+    let at-loop = c .before in
+    let none-left : at-loop .loop .i ≡ 0 = omega arith in
+    sym (at-loop .loop .inv .1 ∙ rw none-left)
 
 pub parent-spec : {M : Type 1} → statement M
 parent-spec =

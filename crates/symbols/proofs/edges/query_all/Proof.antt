@@ -39,16 +39,42 @@ enum-told : tie.Need-enum-told Inv-loop μ-loop
 enum-told c = search needs
 
 same-length : tie.Need-same-length Inv-loop μ-loop
-same-length c = c .before .before .before .before .list .given ∙ all.ask-length _ _ _ (c .before .before .before .before .before .before .before .before .loop .inv) ∙ sym (ap (λ (l : List ℕ). length l) (c .before .before .before .before .before .before .before .before .before .before .before .before .pre .2))
+same-length c =
+    let listed = c .before .before .before .before in
+    let at-loop = listed .before .before .before .before in
+    let at-entry = at-loop .before .before .before .before in
+    listed .list .given
+    ∙ all.ask-length _ _ _ (at-loop .loop .inv)
+    ∙ sym (ap (λ (l : List ℕ). length l) (at-entry .pre .2))
 
 returns : tie.Need-returns Inv-loop μ-loop
-returns c = all.ask-ends _ _ _ (c .before .before .before .before .before .before .before .before .loop .inv) (c .before .before .before .before .before .before .before .walk .result) (c .before .before .before .before .before .before .before .walk .ensures) (c .before .before .before .before .before .before .before .before .before .has-super .ensures) (c .before .before .before .before .before .noted .ensures) (laws.reached-none (c .before .before .parent .ensures) (c .enum-told .given .1))
+returns c =
+    let asked = c .before .before in
+    let noted = asked .before .before .before in
+    let walked = noted .before .before in
+    let at-loop = walked .before in
+    let top = laws.reached-none (asked .parent .ensures) (c .enum-told .given .1) in
+    all.ask-ends _ _ _ (at-loop .loop .inv) (walked .walk .result) (walked .walk .ensures)
+    (at-loop .before .has-super .ensures) (noted .noted .ensures) top
 
 loop-less : tie.Need-loop-less Inv-loop μ-loop
-loop-less c = let ends = c .before .before .before .before .before .before .before .before .before .loop .inv .ends in laws.chain-falls _ _ (ends .1) (ends .0) (laws.reached-node (c .before .before .before .parent .ensures) (c .before .up .given .1))
+loop-less c =
+    let next = c .before in
+    let asked = next .before .before in
+    let at-loop = asked .before .before .before .before .before .before in
+    let ends = at-loop .loop .inv .ends in
+    laws.chain-falls _ _ (ends .1) (ends .0) (laws.reached-node (asked .parent .ensures) (next .up .given .1))
 
 loop-again : tie.Need-loop-again Inv-loop μ-loop
-loop-again c = all.ask-up _ _ _ (c .before .before .before .before .before .before .before .before .before .loop .inv) (c .before .before .before .before .before .before .before .before .walk .result) (c .before .before .before .before .before .before .before .before .walk .ensures) (c .before .before .before .before .before .before .before .before .before .before .has-super .ensures) (c .before .before .before .before .before .before .noted .ensures) (laws.reached-node (c .before .before .before .parent .ensures) (c .before .up .given .1))
+loop-again c =
+    let next = c .before in
+    let asked = next .before .before in
+    let noted = asked .before .before .before in
+    let walked = noted .before .before in
+    let at-loop = walked .before in
+    let up = laws.reached-node (asked .parent .ensures) (next .up .given .1) in
+    all.ask-up _ _ _ (at-loop .loop .inv) (walked .walk .result) (walked .walk .ensures)
+    (at-loop .before .has-super .ensures) (noted .noted .ensures) up
 
 pub query-all-spec : {M : Type 1} → statement M
 query-all-spec =

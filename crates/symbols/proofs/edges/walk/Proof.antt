@@ -33,7 +33,12 @@ enum-told : tie.Need-enum-told Inv-loop μ-loop
 enum-told c = search needs
 
 returns : tie.Need-returns Inv-loop μ-loop
-returns c = sym (c .before .before .before .before .before .loop .inv .1 ∙ laws.walk-stuck _ _ (c .before .before .before .before .loop-test .taken) _ _ (laws.reached-none (c .before .before .step .ensures) (c .enum-told .given .1)))
+returns c =
+    let stepped = c .before .before in
+    let turn = stepped .before .before in
+    let at-loop = turn .before in
+    let stuck = laws.reached-none (stepped .step .ensures) (c .enum-told .given .1) in
+    sym (at-loop .loop .inv .1 ∙ laws.walk-stuck _ _ (turn .loop-test .taken) _ _ stuck)
 
 add-i : tie.Need-add-i Inv-loop μ-loop
 add-i c = search needs
@@ -42,10 +47,18 @@ loop-less : tie.Need-loop-less Inv-loop μ-loop
 loop-less c = search needs
 
 loop-again : tie.Need-loop-again Inv-loop μ-loop
-loop-again c = (search needs, c .before .before .before .before .before .before .loop .inv .1 ∙ laws.walk-on _ _ (c .before .before .before .before .before .loop-test .taken) _ _ (laws.reached-node (c .before .before .before .step .ensures) (c .before .next .given .1)))
+loop-again c =
+    let next = c .before in
+    let stepped = next .before .before in
+    let turn = stepped .before .before in
+    let at-loop = turn .before in
+    let onward = laws.reached-node (stepped .step .ensures) (next .next .given .1) in
+    (search needs, at-loop .loop .inv .1 ∙ laws.walk-on _ _ (turn .loop-test .taken) _ _ onward)
 
 returns-2 : tie.Need-returns-2 Inv-loop μ-loop
-returns-2 c = sym (c .before .loop .inv .1 ∙ laws.walk-end _ _ (c .before .loop .inv .0) (c .loop-test .left) _ _)
+returns-2 c =
+    let at-loop = c .before in
+    sym (at-loop .loop .inv .1 ∙ laws.walk-end _ _ (at-loop .loop .inv .0) (c .loop-test .left) _ _)
 
 pub walk-spec : {M : Type 1} → statement M
 walk-spec =
