@@ -101,6 +101,46 @@ export-words t n s path {u} size e ok =
     (pick (names i) (Refused nameTaken)
     (pick (room (more-nodes i) (more-edges i)) (Done (withEdge (is i .0) (is i .1) x n)) (Refused noRoom))))
 
+-- without room for some there is none for more
+no-room : (n k m l : ℕ) → n ≤ m → k ≤ l → room n k ≡ false → room m l ≡ false
+unfolding room
+no-room n k m l nodes edges e = go (room m l) refl
+  where
+    go : (b : Bool) → room m l ≡ b → room m l ≡ false
+    go true q =
+        let free = room-has m l q in
+        let fits : room n k ≡ true = rw (le-leb n 1024 (omega arith), le-leb k 2048 (omega arith)) in
+        never (cc)
+    go false q = q
+
+-- a sound table has room for itself
+fits-as-it-is : (t : SymbolTable) (m : ℕ) → Sound t → m ≡ 0 → room (t .nodes + m) (t .edges + m) ≡ false → ⊥
+unfolding room
+fits-as-it-is t m h e full =
+    let nodes = le-leb (t .nodes + m) 1024 (omega (arith, h .few-nodes)) in
+    let edges = le-leb (t .edges + m) 2048 (omega (arith, h .few-edges)) in
+    let fits : room (t .nodes + m) (t .edges + m) ≡ true = rw (nodes, edges) in
+    never (cc)
+
+-- where they do not fit: 4 all the same if the node is on the chain of where they would be made, else 2
+pub export-no-room : (t : SymbolTable) (n s : ℕ) (path : List ℕ)
+    → let there = deepest (edgesOf t) s (front path) in
+    room (t .nodes + length (there .1)) (t .edges + length (there .1)) ≡ false
+    → (isNode t s && isNode t n && isNewPath path && ltb 0 (length path)) ≡ true
+    → export t n s path ≡ pick (has n (chain (edgesOf t) (there .0))) (Refused loop) (Refused noRoom)
+unfolding export exportFrom
+export-no-room t n s path full ok =
+    let there : ℕ × List ℕ = deepest (edgesOf t) s (front path) in
+    let missing : ℕ = length (there .1) in
+    let both = and-eq-true-iff (isNode t s && isNode t n && isNewPath path) (ltb 0 (length path)) .0 ok .0 in
+    let nodes = and-eq-true-iff (isNode t s && isNode t n) (isNewPath path) .0 both .0 in
+    let a = node-is t s (and-eq-true-iff (isNode t s) (isNode t n) .0 nodes .0) .0 in
+    let some-missing : missing ≡ 0 → ⊥ = λ e. fits-as-it-is t missing a e full in
+    let not-taken : (eqb missing 0 && taken (edgesOf t) (there .0) (lastId path) n) ≡ false = rw (ne-eqb missing 0 some-missing) in
+    let no-edge : room (t .nodes + missing) (t .edges + (missing + 1)) ≡ false = no-room _ _ _ _ (omega arith) (omega arith) full in
+    sym (at-true _ _ ok)
+    ∙ ap (pick (has n (chain (edgesOf t) (there .0))) (Refused loop)) (sym (at-false _ _ no-edge ∙ at-false _ _ not-taken))
+
 -- ---- ensure_index id by id
 
 -- behind the test of its arguments, from what is there of the path
@@ -130,18 +170,6 @@ path-rest x path ok =
 rest-ok : (u : SymbolTable) (c x : ℕ) (path : List ℕ) → isNewPath (x ∷ path) ≡ true → Sound u → c < u .nodes
     → (isNode u c && isNewPath path) ≡ true
 rest-ok u c x path ok h l = rw (sound-table u h, lt-ltb c (u .nodes) l, path-rest x path ok .1)
-
--- without room for some there is none for more
-no-room : (n k m l : ℕ) → n ≤ m → k ≤ l → room n k ≡ false → room m l ≡ false
-unfolding room
-no-room n k m l nodes edges e = go (room m l) refl
-  where
-    go : (b : Bool) → room m l ≡ b → room m l ≡ false
-    go true q =
-        let free = room-has m l q in
-        let fits : room n k ≡ true = rw (le-leb n 1024 (omega arith), le-leb k 2048 (omega arith)) in
-        never (cc)
-    go false q = q
 
 -- a test that fails with another refuses as that does
 refused-too : {A : Type 0} (b d : Bool) (x y : A) (n : ℕ) {k : ℕ} → (b ≡ false → d ≡ false)

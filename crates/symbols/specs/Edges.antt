@@ -90,6 +90,7 @@ unfoldable pub allOn : List Edge → List ℕ → List ℕ → List ℕ
 allOn es path [] = []
 allOn es path (s ∷ ss) = found (queryOn es path (s ∷ ss)) (allOn es path ss) (λ n. n ∷ allOn es path ss)
 
+-- "query_all" from a scope
 unfoldable pub allOf : List Edge → ℕ → List ℕ → List ℕ
 allOf es s path = allOn es path (chain es s)
 

@@ -34,6 +34,7 @@ new = record {
 unfoldable pub fits : ℕ → Edge → Bool
 fits n e = ltb (e .from) n && ltb (e .to) n && ltb root (e .to) && ltb super (e .id)
 
+-- every edge is one
 unfoldable pub allFit : ℕ → List Edge → Bool
 allFit n [] = true
 allFit n (e ∷ es) = fits n e && allFit n es
@@ -51,6 +52,7 @@ rooted es s = has root (chain es s)
 unfoldable pub soundEdges : ℕ → ℕ → List Edge → Bool
 soundEdges n k es = leb 1 n && leb n maxNodes && leb k maxEdges && allFit n es && allBelow n (rooted es)
 
+-- a table whose counts, edges and chains are so
 abbrev pub sound : SymbolTable → Bool
 sound t = soundEdges (t .nodes) (t .edges) (edgesOf t)
 
@@ -68,6 +70,7 @@ isNode t s = sound t && ltb s (t .nodes)
 abbrev pub isName : ℕ → Bool
 isName x = ltb super x
 
+-- "paths of 0 to 4 ids"
 abbrev pub isPath : List ℕ → Bool
 isPath path = leb (length path) maxPath
 
@@ -85,6 +88,7 @@ ofRoom t n k a = pick (room (t .nodes + n) (t .edges + k)) (Done a) (Refused noR
 
 -- ---- a node's number
 
+-- the number of node s, if it has one: whether it does stands in one list, and which in the other
 unfoldable pub numberAt : List Bool → List ℤ → ℕ → Option ℤ
 numberAt known number s = pick (getD known s false) (some (getD number s (pos 0))) none
 
@@ -162,18 +166,23 @@ insert t s x d =
     ofRange (isNode t s && isName x)
     (ofRoom t 1 1 (inserted t s x d, t .nodes))
 
+-- the table in which the node has this number, or none
 unfoldable pub updateData : SymbolTable → ℕ → Option ℤ → Answer SymbolTable
 updateData t s d = ofRange (isNode t s) (Done (withData t s d))
 
+-- what one name means in a node
 unfoldable pub child : SymbolTable → ℕ → ℕ → Answer (Option ℕ)
 child t s x = ofRange (isNode t s && isName x) (Done (childOf (edgesOf t) s x))
 
+-- the node above
 unfoldable pub parent : SymbolTable → ℕ → Answer (Option ℕ)
 parent t s = ofRange (isNode t s) (Done (parentOf (edgesOf t) s))
 
+-- what a path means in a node
 unfoldable pub tryIndex : SymbolTable → ℕ → List ℕ → Answer (Option ℕ)
 tryIndex t s path = ofRange (isNode t s && isPath path) (Done (walkOf (edgesOf t) path s))
 
+-- what a path means in a scope, asked from there up
 unfoldable pub query : SymbolTable → ℕ → List ℕ → Answer (Option ℕ)
 query t s path = ofRange (isNode t s && isPath path) (Done (queryOf (edgesOf t) s path))
 
