@@ -1,6 +1,6 @@
 // The symbol table, under the Rust's names: nodes, numbered as they are made, joined by edges with names. The nodes below a node
-// are its scope. A table is plain data and goes in and comes back by value; look-ups lend its edges and copy nothing. A call on a
-// table that is not sound is refused (1), and a refused call changes nothing.
+// are its scope. A table is plain data and goes in and comes back by value; inside a call, look-ups lend its edges and copy
+// nothing. A call on a table that is not sound is refused (1), and a refused call changes nothing.
 mod edges;
 mod soundness;
 
