@@ -19,6 +19,7 @@ use Rattle.opcodes.specs.declared.Distance as B
 use Rattle.opcodes.specs.declared.Distance.the-variants as distance
 use Rattle.opcodes.specs.Decode.{Instruction}
 use Rattle.opcodes.specs.Says.{listed, saysEncoded, saysKnown, saysDecoded, saysDistance}
+use Rattle.opcodes.proofs.in_range.Reads as in-range
 use Rattle.opcodes.proofs.forms_of.Reads as forms-of
 use Rattle.opcodes.proofs.length.Reads as length
 use Rattle.opcodes.proofs.encode.Reads as encode
@@ -71,6 +72,9 @@ asDistance-says (distance.Byte b) = refl
 asDistance-says (distance.Refused n) = refl
 
 -- ---- the calls
+
+pub in-range-one : OneResult in-range.Post
+in-range-one k a x y e f p q = same p q
 
 pub forms-of-one : OneResult forms-of.Post
 forms-of-one k a x y e f p q = told-apart listed unlisted unlisted-listed p q

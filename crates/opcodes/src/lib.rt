@@ -92,7 +92,7 @@ const FARTHEST_BACK: i64 = -128;
 const FARTHEST_AHEAD: i64 = 127;
 
 // Whether a mnemonic, a mode and a suffix are in document 01's ranges.
-fn in_range(mnemonic: u8, mode: u8, suffix: u8) -> bool
+pub fn in_range(mnemonic: u8, mode: u8, suffix: u8) -> bool
     ensures { λ r. ⌜ r ≡ inRange mnemonic mode suffix ⌝ }
 {
     if mnemonic < MNEMONICS {

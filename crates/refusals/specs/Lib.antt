@@ -1,4 +1,5 @@
 pub mod Answer
+pub mod AnswerAt
 pub mod Table
 pub mod Each
 pub mod Says

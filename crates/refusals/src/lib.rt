@@ -44,6 +44,12 @@ pub enum Outcome {
     Refused(u8),
 }
 
+// The same of a call on a tape: a refusal has its number, and the offset of the record at fault.
+pub enum OutcomeAt {
+    Done,
+    Refused { number: u8, at: usize },
+}
+
 // The numbers under these names, in the table's order: those that definitions cite.
 pub fn all() -> [u8; 18]
     ensures { λ r. ⌜ r ≡ numbers ⌝ }
