@@ -10,7 +10,7 @@ use lib.Dec.{eqb, ltb}
 use lib.IntN.{ℤ, pos}
 use lib.ListN.{length, set, length-replicate}
 use lib.Seq.{getD-set-same}
-use borrow.Author.Tests.{ltb-true, lt-ltb, eqb-true, eq-eqb, not-true, not-false}
+use borrow.Author.Tests.{le-leb, ltb-true, lt-ltb, eqb-true, eq-eqb, not-true, not-false}
 use Rattle.refusals.specs.Answer.{Done}
 use Rattle.refusals.specs.Table.{argument, noRoom, nameTaken, loop}
 use Rattle.refusals.proofs.Never.{never}
@@ -18,7 +18,7 @@ use Rattle.refusals.proofs.Pick.{done-passed, done-missed, done-value}
 use Rattle.symbols.specs.declared.edges.Edge.{Edge}
 use Rattle.symbols.specs.declared.SymbolTable.{SymbolTable}
 use Rattle.symbols.specs.Edges.{childOf, parentOf, walkOf, has, chain, chainOf, deepest, taken, elsewhere, edgesIn}
-use Rattle.symbols.specs.Symbols.{edgesOf, new, allFit, allBelow, rooted, soundEdges, sound, isNode, isName, isPath, isNewPath, room, numberAt, isKnown, numberOr0, withData, withEdge, withNode, inserted, grown, get, insert, updateData, ensureIndex, front, lastId, exported, exportFrom, export}
+use Rattle.symbols.specs.Symbols.{edgesOf, new, allFit, allBelow, rooted, soundEdges, sound, isNode, isName, isPath, isNewPath, room, numberAt, isKnown, numberOr0, withData, withEdge, withNode, inserted, grown, get, insert, updateData, query, queryEdges, ensureIndex, front, lastId, exported, exportFrom, export}
 use Rattle.symbols.proofs.Tables.{room-has}
 use Rattle.symbols.proofs.Sound.{sound-has, sound-is}
 use Rattle.symbols.proofs.Chains.{Up, Off, has-off}
@@ -294,3 +294,9 @@ module _ (t : SymbolTable) (s : ℕ) (d : Option ℤ) (known : length (t .known)
       subst (λ (v : SymbolTable × ℕ). get (v .0) (v .1) ≡ Done d) (a .1)
       (get-is (inserted t s x d) (t .nodes) d (sound-table (inserted t s x d) h) (omega arith)
       (data-read (t .known) (t .number) (t .nodes) d (omega arith) (omega arith)))
+
+-- ---- what is lent is asked as the table is
+
+pub query-lent : (t : SymbolTable) (s : ℕ) (path : List ℕ) → isNode t s ≡ true → queryEdges (t .links) (t .edges) s path ≡ query t s path
+unfolding query queryEdges
+query-lent t s path h = rw (h, le-leb _ _ (node-is t s h .0 .few-edges))

@@ -201,6 +201,38 @@ module _ (es : List Edge) (s : ℕ) (r : rooted es s ≡ true) where
   unfolding has
   on-top n e = rw (chain-alone e, ne-eqb _ _ n)
 
+-- ---- one scope of any chain: k nodes of it are left
+
+module _ (es : List Edge) (path : List ℕ) (k s : ℕ) where
+  abbrev left : ℕ → Option ℕ
+  left n = queryOn es path (chainOf es n s)
+
+  pub any-none : k ≤ 0 → left k ≡ none
+  unfolding queryOn chainOf
+  any-none h = let z : k ≡ 0 = omega arith in rw z
+
+  module _ (some-left : 0 < k) where
+    more : k ≡ suc (k - 1)
+    more = omega arith
+
+    pub any-here : {n : ℕ} → walkOf es path s ≡ some n → left k ≡ some n
+    unfolding queryOn chainOf
+    any-here w = ap left more ∙ rw w
+
+    module _ (w : walkOf es path s ≡ none) where
+      pub any-super : has 0 path ≡ true → left k ≡ none
+      unfolding queryOn chainOf
+      any-super h = ap left more ∙ rw (w, h)
+
+      module _ (h : has 0 path ≡ false) where
+        pub any-top : parentOf es s ≡ none → left k ≡ none
+        unfolding queryOn chainOf
+        any-top e = ap left more ∙ rw (w, h, e)
+
+        pub any-up : {p : ℕ} → parentOf es s ≡ some p → left k ≡ queryOn es path (chainOf es (k - 1) p)
+        unfolding queryOn chainOf
+        any-up e = ap left more ∙ rw (w, h, e)
+
 -- ---- three words
 
 pub three-stores : (m : List ℕ) (at : ℕ) → at + 3 ≤ length m → (a b d : ℕ)

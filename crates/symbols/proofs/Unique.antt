@@ -31,6 +31,8 @@ use Rattle.symbols.proofs.SymbolTable.parent.Reads as parent
 use Rattle.symbols.proofs.SymbolTable.child.Reads as child
 use Rattle.symbols.proofs.SymbolTable.query.Reads as query
 use Rattle.symbols.proofs.SymbolTable.query_all.Reads as query-all
+use Rattle.symbols.proofs.query_edges.Reads as query-edges
+use Rattle.symbols.proofs.is_node.Reads as is-node
 
 -- ---- of each answer, the case that says this
 
@@ -117,3 +119,9 @@ query-one k a x y e f p q = told-apart saysFound backFound back-found p q
 -- the result, and the list at exit
 pub query-all-one : One {S = λ k. Count × List ℕ} (λ k x e. (x, e .1 .1 .1 .0 .now)) query-all.Post
 query-all-one k a x y e f p q = and-also (told-apart saysCount backCount back-count (p .0) (q .0)) (same (p .1) (q .1))
+
+pub query-edges-one : OneResult query-edges.Post
+query-edges-one k a x y e f p q = told-apart saysFound backFound back-found p q
+
+pub is-node-one : OneResult is-node.Post
+is-node-one k a x y e f p q = same p q

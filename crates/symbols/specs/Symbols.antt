@@ -186,6 +186,10 @@ tryIndex t s path = ofRange (isNode t s && isPath path) (Done (walkOf (edgesOf t
 unfoldable pub query : SymbolTable → ℕ → List ℕ → Answer (Option ℕ)
 query t s path = ofRange (isNode t s && isPath path) (Done (queryOf (edgesOf t) s path))
 
+-- the same in k edges that may be those of no sound table: a chain is then no longer than a table has nodes
+unfoldable pub queryEdges : List ℕ → ℕ → ℕ → List ℕ → Answer (Option ℕ)
+queryEdges links k s path = ofRange (leb k maxEdges && isPath path) (Done (queryOf (edgesIn links k) s path))
+
 -- the missing nodes of a path are made, all or none
 unfoldable pub ensureIndex : SymbolTable → ℕ → List ℕ → Answer (SymbolTable × ℕ)
 ensureIndex t s path =

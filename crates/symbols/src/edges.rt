@@ -1,5 +1,6 @@
 // Look-ups in the edges of a table: in the first n of them, which are in the order of adding, so that each goes from the last to
 // the first. The edges are lent; nothing is copied.
+use crate::NODES;
 use crate::WORDS;
 ghost use mathlib.Core.Path.{_≡_};
 ghost use Prim.Native.Nat.{_+_, _*_, _<_, _≤_};
@@ -149,6 +150,33 @@ pub fn query(links: &[u16; WORDS], n: usize, s: u16, path: &[u16]) -> Reached
             }
         }
     }
+}
+
+// The same in edges that may be anything: a chain is followed over as many nodes as a table has at most.
+pub fn query_any(links: &[u16; WORDS], n: usize, s: u16, path: &[u16]) -> Reached
+    requires { ⌜ n ≤ maxEdges ⌝ }
+    ensures { λ r. ⌜ saysReached r ≡ queryOf (edgesIn (now (links .entry)) n) s (now (path .entry)) ⌝ }
+{
+    let mut at = s;
+    let mut left = NODES;
+    while 0 < left {
+        left -= 1;
+        match walk(links, n, at, path) {
+            Reached::At(node) => {
+                return Reached::At(node);
+            }
+            Reached::Nothing => {
+                if has_super(path) {
+                    return Reached::Nothing;
+                }
+                let Reached::At(up) = parent(links, n, at) else {
+                    return Reached::Nothing;
+                };
+                at = up;
+            }
+        }
+    }
+    Reached::Nothing
 }
 
 // Whether node x is on the chain of s to the root.

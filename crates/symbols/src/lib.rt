@@ -19,7 +19,7 @@ ghost use lib.ListN.{length};
 ghost use lib.Dec.{eqb, ltb};
 ghost use Rattle.refusals.specs.Answer.{Done, Refused, mapped};
 ghost use Rattle.symbols.specs.Edges.{maxNodes, maxEdges, taken, edgesIn};
-ghost use Rattle.symbols.specs.Symbols.{left, leftNode, new, soundEdges, sound, isNewPath, room, numberAt, isKnown, numberOr0, withData, withEdge, withNode, inserted, grown, get, insert, updateData, child, parent, tryIndex, query, ensureIndex, exportFrom, export, queryAll, listAfter};
+ghost use Rattle.symbols.specs.Symbols.{left, leftNode, new, soundEdges, sound, isNewPath, room, numberAt, isKnown, numberOr0, withData, withEdge, withNode, inserted, grown, get, insert, updateData, child, parent, tryIndex, query, queryEdges, ensureIndex, exportFrom, export, queryAll, listAfter};
 ghost use Rattle.symbols.specs.Says.{saysData, saysGot, saysReached, saysFound, saysCount, saysChanged, saysInserted};
 
 // How many nodes a table holds, with the root; also how many places the list of query_all has.
@@ -376,7 +376,21 @@ fn done(table: SymbolTable) -> Changed
     }
 }
 
-// The answer of a look-up in a sound table.
+// The query in the edges of a table that are lent, for who asks many: nothing is tested but that the edges and the path are no
+// more than fit. Of a sound table it is the table's own query.
+pub fn query_edges(links: &[u16; WORDS], edges: usize, nx: u16, path: &[u16]) -> Found
+    ensures { λ r. ⌜ saysFound r ≡ queryEdges (now (links .entry)) edges nx (now (path .entry)) ⌝ }
+{
+    if EDGES < edges {
+        return Found::Refused(ARGUMENT);
+    }
+    if LONGEST < path.len() {
+        return Found::Refused(ARGUMENT);
+    }
+    answer(edges::query_any(links, edges, nx, path))
+}
+
+// The answer of a look-up.
 fn answer(reached: Reached) -> Found
     ensures { λ r. ⌜ saysFound r ≡ Done (saysReached reached) ⌝ }
 {
@@ -448,7 +462,7 @@ fn is_taken(links: &[u16; WORDS], edges: usize, missing: usize, s: u16, x: u16, 
 }
 
 // Whether the table is sound, and nx a node of it.
-fn is_node(links: &[u16; WORDS], edges: usize, nodes: usize, nx: u16) -> bool
+pub fn is_node(links: &[u16; WORDS], edges: usize, nodes: usize, nx: u16) -> bool
     ensures { λ r. ⌜ r ≡ (soundEdges nodes edges (edgesIn (now (links .entry)) edges) && ltb nx nodes) ⌝ }
 {
     if !soundness::is_sound(links, edges, nodes) {
