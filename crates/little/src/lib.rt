@@ -33,6 +33,13 @@ fn first_eight(s: &[u8]) -> u64
         + 0x100_0000_0000_0000 * byte(s, 7)
 }
 
+// The byte at an offset.
+pub fn u8_at(s: &[u8], at: usize) -> u8
+    ensures { λ r. ⌜ r ≡ getD (now (s .entry)) at 0 ⌝ }
+{
+    if at < s.len() { s[at] } else { 0 }
+}
+
 // The 16-bit number at an offset.
 pub fn u16_at(s: &[u8], at: usize) -> u16
     ensures { λ r. ⌜ r ≡ numberAt 2 (now (s .entry)) at ⌝ }

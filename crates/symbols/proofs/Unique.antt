@@ -54,12 +54,12 @@ back-node : (x : Node) → backNode (saysNode x) ≡ x
 back-node (node.Is n) = refl
 back-node (node.Refused n) = refl
 
-abbrev backFound : Answer (Option ℕ) → Found
+abbrev pub backFound : Answer (Option ℕ) → Found
 backFound (Done (some n)) = found.At n
 backFound (Done none) = found.Nothing
 backFound (Refused n) = found.Refused n
 
-back-found : (x : Found) → backFound (saysFound x) ≡ x
+pub back-found : (x : Found) → backFound (saysFound x) ≡ x
 back-found (found.At n) = refl
 back-found (found.Nothing) = refl
 back-found (found.Refused n) = refl

@@ -11,6 +11,7 @@ use Rattle.tape.specs.declared.Found.the-variants as found
 use Rattle.tape.proofs.size.Reads as size
 use Rattle.tape.proofs.is_expression.Reads as is-expression
 use Rattle.tape.proofs.is_statement.Reads as is-statement
+use Rattle.tape.proofs.is_name.Reads as is-name
 use Rattle.tape.proofs.find.Reads as find
 use Rattle.tape.proofs.record.Reads as record-reads
 
@@ -30,6 +31,9 @@ is-expression-one k a x y e f p q = same p q
 
 pub is-statement-one : OneResult is-statement.Post
 is-statement-one k a x y e f p q = same p q
+
+pub is-name-one : OneResult is-name.Post
+is-name-one k a x y e f p q = same p q
 
 pub find-one : OneResult find.Post
 find-one k a x y e f p q = told-apart saysFound backFound back-found p q

@@ -114,3 +114,7 @@ isExpression k = isKind k && ltb k instruction
 
 unfoldable pub isStatement : ℕ → Bool
 isStatement k = isKind k && leb instruction k
+
+-- "name of 1..4 ids"
+unfoldable pub isName : ℕ → Bool
+isName k = leb name1 k && leb k name4

@@ -4,7 +4,7 @@ use refusals::CUT_SHORT;
 ghost use mathlib.Core.Path.{_≡_};
 ghost use lib.ListN.{length};
 ghost use Rattle.refusals.specs.AnswerAt.{mapped};
-ghost use Rattle.tape.specs.Kinds.{sizeOf, isExpression, isStatement};
+ghost use Rattle.tape.specs.Kinds.{sizeOf, isExpression, isStatement, isName};
 ghost use Rattle.tape.specs.Record.{recordAt, bytesAt};
 ghost use Rattle.tape.specs.Says.{saysFound};
 
@@ -97,6 +97,16 @@ pub fn is_statement(kind: u8) -> bool
         return false;
     }
     INSTRUCTION <= kind
+}
+
+// Whether it is the kind of a name.
+pub fn is_name(kind: u8) -> bool
+    ensures { λ r. ⌜ r ≡ isName kind ⌝ }
+{
+    if kind < NAME_1 {
+        return false;
+    }
+    kind <= NAME_4
 }
 
 // How long the record at an offset is.
