@@ -4,24 +4,24 @@ use mathlib.Core.Bool.{Bool, true, false, not, _&&_, and-eq-true-iff}
 use mathlib.Core.Path.{_≡_, refl, sym, ap, _∙_, subst}
 use mathlib.Core.List.{List, [], _∷_}
 use mathlib.Core.Option.{Option, none, some}
-use Prim.Native.Nat.{ℕ, _+_, _-_, _<_}
+use Prim.Native.Nat.{ℕ, zero, suc, _+_, _-_, _<_}
 use native.Mathlib.Omega.{arith}
 use lib.Dec.{eqb, ltb}
 use lib.IntN.{ℤ, pos}
 use lib.ListN.{length, set, length-replicate}
 use lib.Seq.{getD-set-same}
 use borrow.Author.Tests.{le-leb, ltb-true, lt-ltb, eqb-true, eq-eqb, not-true, not-false}
-use Rattle.refusals.specs.Answer.{Done}
+use Rattle.refusals.specs.Answer.{Done, pick}
 use Rattle.refusals.specs.Table.{argument, noRoom, nameTaken, loop}
 use Rattle.refusals.proofs.Never.{never}
 use Rattle.refusals.proofs.Pick.{done-passed, done-missed, done-value}
 use Rattle.symbols.specs.declared.edges.Edge.{Edge}
 use Rattle.symbols.specs.declared.SymbolTable.{SymbolTable}
-use Rattle.symbols.specs.Edges.{childOf, parentOf, walkOf, has, chain, chainOf, deepest, taken, elsewhere, edgesIn}
+use Rattle.symbols.specs.Edges.{found, childOf, parentOf, stepOf, walkOf, has, chain, chainOf, queryOn, queryOf, deepest, taken, elsewhere, edgesIn}
 use Rattle.symbols.specs.Symbols.{edgesOf, new, allFit, allBelow, rooted, soundEdges, sound, isNode, isName, isPath, isNewPath, room, numberAt, isKnown, numberOr0, withData, withEdge, withNode, inserted, grown, get, insert, updateData, query, queryEdges, ensureIndex, front, lastId, exported, exportFrom, export}
 use Rattle.symbols.proofs.Tables.{room-has}
 use Rattle.symbols.proofs.Sound.{sound-has, sound-is}
-use Rattle.symbols.proofs.Chains.{Up, Off, has-off}
+use Rattle.symbols.proofs.Chains.{Up, Off, has-off, fit-parent, fit-child}
 use Rattle.symbols.proofs.Growing.{Deepest, Grown, Holds, Place, Sound, child-new, deepest-is, edge-sound, edges-added, either-not, getD-not, grown-is, holds-edge, inserted-child, inserted-sound, lengths, lengths-data, lengths-edge, lengths-inserted, path-ends, take-not, walk-append, walk-on}
 
 -- ---- what an accepted call had
@@ -300,3 +300,41 @@ module _ (t : SymbolTable) (s : ℕ) (d : Option ℤ) (known : length (t .known)
 pub query-lent : (t : SymbolTable) (s : ℕ) (path : List ℕ) → isNode t s ≡ true → queryEdges (t .links) (t .edges) s path ≡ query t s path
 unfolding query queryEdges
 query-lent t s path h = rw (h, le-leb _ _ (node-is t s h .0 .few-edges))
+
+-- ---- what is found is a node
+
+module _ (es : List Edge) (n : ℕ) (fit : allFit n es ≡ true) where
+  step-node : (s x : ℕ) {m : ℕ} → stepOf es s x ≡ some m → m < n
+  unfolding stepOf
+  step-node s x {m} e = go (eqb x 0) e
+    where
+      go : (b : Bool) → pick b (parentOf es s) (childOf es s x) ≡ some m → m < n
+      go true e = fit-parent es n s m fit e
+      go false e = fit-child es n s x m fit e
+
+  walk-node : (path : List ℕ) (s : ℕ) {m : ℕ} → s < n → walkOf es path s ≡ some m → m < n
+  unfolding walkOf
+  walk-node [] s {m} h e = let q : s ≡ m = cc in omega arith
+  walk-node (x ∷ xs) s {m} h e = go (stepOf es s x) refl e (λ t l. walk-node xs t l)
+    where
+      go : (r : Option ℕ) → stepOf es s x ≡ r → found r none (λ t. walkOf es xs t) ≡ some m
+          → ((t : ℕ) → t < n → walkOf es xs t ≡ some m → m < n) → m < n
+      go none p e f = never (cc)
+      go (some t) p e f = f t (step-node s x p) e
+
+  query-on-node : (k s : ℕ) (path : List ℕ) {m : ℕ} → s < n → queryOn es path (chainOf es k s) ≡ some m → m < n
+  unfolding queryOn chainOf
+  query-on-node zero s path h e = never (cc)
+  query-on-node (suc k) s path {m} h e = go (walkOf es path s) refl (has 0 path) (parentOf es s) refl e (λ u l. query-on-node k u path l)
+    where
+      go : (w : Option ℕ) → walkOf es path s ≡ w → (b : Bool) (p : Option ℕ) → parentOf es s ≡ p
+          → found w (pick b none (queryOn es path (found p [] (λ u. chainOf es k u)))) some ≡ some m
+          → ((u : ℕ) → u < n → queryOn es path (chainOf es k u) ≡ some m → m < n) → m < n
+      go (some t) pw b p pp e f = let q : t ≡ m = cc in walk-node path s h (pw ∙ ap some q)
+      go none pw true p pp e f = never (cc)
+      go none pw false none pp e f = never (cc)
+      go none pw false (some u) pp e f = f u (fit-parent es n s u fit pp) e
+
+pub query-node : (t : SymbolTable) (s : ℕ) (path : List ℕ) {m : ℕ} → isNode t s ≡ true → queryOf (edgesOf t) s path ≡ some m → m < t .nodes
+unfolding queryOf chain
+query-node t s path h e = let a = node-is t s h in query-on-node (edgesOf t) (t .nodes) (a .0 .fit) 1024 s path (a .1) e

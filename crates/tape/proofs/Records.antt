@@ -94,6 +94,14 @@ module _ (tape : List ℕ) (at : ℕ) where
       go (Fine bs) e = never (cc)
       go (Fault m j) e = refl
 
+  -- a record ends within the tape, or, where there is none, where it began
+  pub record-end : (m : ℕ) → at ≤ m → length tape ≤ m → at + length (bytesAt tape at) ≤ m
+  record-end m h l = go (recordAt tape at) refl
+    where
+      go : (a : AnswerAt (List ℕ)) → recordAt tape at ≡ a → at + length (part a) ≤ m
+      go (Fine bs) e = let w = found-whole (length bs) (sym (ap (mapped length) e)) in omega (arith, w .0)
+      go (Fault n i) e = omega arith
+
 -- ---- kinds
 
 module _ (k n : ℕ) (is : n ≡ sizeOf k) where
@@ -131,3 +139,17 @@ lookup-most (r ∷ rs) k s = go (eqb k (r .kind)) (lookup-most rs k (s .1))
 pub size-most : (k : ℕ) → sizeOf k ≤ 10
 unfolding sizeOf
 size-most k = lookup-most table k (omega arith)
+
+-- and so is no record of a tape
+pub record-most : (tape : List ℕ) (at : ℕ) → length (bytesAt tape at) ≤ 10
+record-most tape at = elim (decLt at (length tape)) [ yes h ↦ inside h | no h ↦ rw (record-past tape at (omega arith)) (omega arith) ]
+  where
+    inside : at < length tape → length (bytesAt tape at) ≤ 10
+    inside h = go (eqb (sizeOf (getD tape at 0)) 0) refl (leb (sizeOf (getD tape at 0)) (length tape - at)) refl
+      where
+        go : (a : Bool) → eqb (sizeOf (getD tape at 0)) 0 ≡ a → (b : Bool) → leb (sizeOf (getD tape at 0)) (length tape - at) ≡ b → length (bytesAt tape at) ≤ 10
+        go true p b q = rw (record-unknown tape at _ h refl (eqb-true _ 0 p)) (omega arith)
+        go false p true q =
+            let most = leb-true _ _ q in
+            rw (record-whole tape at _ h refl (eqb-false _ 0 p) most, whole-length tape at _ h refl most) (size-most (getD tape at 0))
+        go false p false q = rw (record-cut tape at _ h refl (eqb-false _ 0 p) (leb-false _ _ q)) (omega arith)

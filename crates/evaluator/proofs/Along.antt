@@ -1,0 +1,128 @@
+-- An expression is read record by record: what it comes to depends on no other offset. Assumes nothing.
+use mathlib.Core.Bool.{Bool, true, false}
+use mathlib.Core.List.{List}
+use mathlib.Core.Option.{Option, none, some}
+use mathlib.Core.Path.{_≡_, refl, sym, ap, _∙_, subst}
+use Prim.Native.Nat.{ℕ, zero, suc, _+_, _-_, _≤_, _<_}
+use native.Mathlib.Nat.{add-zero, add-suc}
+use native.Mathlib.Omega.{arith}
+use lib.Dec.{eqb}
+use lib.IntN.{ℤ}
+use lib.ListN.{length, getD}
+use Rattle.refusals.proofs.Never.{never}
+use Rattle.refusals.specs.Answer.{pick}
+use Rattle.refusals.specs.Table.{badRecord}
+use Rattle.tape.specs.Kinds.{number, currentPlace, flags, binary, isName}
+use Rattle.tape.specs.Record.{bytesAt}
+use Rattle.evaluator.specs.Expression.{Value, Number, Refuses, Meaning, changed, joined, named, innerAt, leaf, factorBy, expressionBy, expression}
+use Rattle.evaluator.specs.Steps.{onward, NameAt}
+
+-- ---- records on
+
+abbrev end : Option (ℕ × ℕ) → ℕ
+end none = 0
+end (some p) = p .1
+
+module _ (tape : List ℕ) where
+  pub onward-onward : (k j at : ℕ) → onward tape k (onward tape j at) ≡ onward tape (k + j) at
+  unfolding onward
+  onward-onward k zero at = rw (add-zero k)
+  onward-onward k (suc j) at = rw (add-suc k j) (onward-onward k j (at + length (bytesAt tape at)))
+
+  onward-ahead : (k at : ℕ) → at ≤ onward tape k at
+  unfolding onward
+  onward-ahead zero at = omega arith
+  onward-ahead (suc k) at = omega (arith, onward-ahead k (at + length (bytesAt tape at)))
+
+  pub onward-later : (j k at : ℕ) → j ≤ k → onward tape j at ≤ onward tape k at
+  onward-later j k at h =
+      let e : k - j + j ≡ k = omega arith in
+      subst (λ (i : ℕ). onward tape j at ≤ i) (onward-onward (k - j) j at ∙ ap (λ (i : ℕ). onward tape i at) e) (onward-ahead (k - j) (onward tape j at))
+
+  -- the record that is passed over
+  pub onward-one : (k at : ℕ) → onward tape (suc k) at ≡ onward tape k at + length (bytesAt tape (onward tape k at))
+  unfolding onward
+  onward-one k at = let e : 1 + k ≡ suc k = omega arith in sym (onward-onward 1 k at ∙ ap (λ (i : ℕ). onward tape i at) e)
+
+  inner-next : (at k : ℕ) {b next : ℕ} → innerAt tape at k ≡ some (b, next) → next ≡ onward tape 1 at
+  unfolding innerAt onward
+  inner-next at k {b} {next} e = go (eqb (getD (bytesAt tape at) 0 0) k) e
+    where
+      go : (t : Bool) → _≡_ {A = Option (ℕ × ℕ)} (pick t (some (getD (bytesAt tape at) 1 0, at + length (bytesAt tape at))) none) (some (b, next))
+          → next ≡ at + length (bytesAt tape at)
+      go true e = sym (ap end e)
+      go false e = never (cc)
+
+  -- ---- where an expression ends
+
+  module _ (numbers : ℕ → Option ℤ) (place : ℤ) where
+    abbrev Ends : ℕ → ℕ → Type 0
+    Ends at i = (k : ℕ) × (i ≡ onward tape k at)
+
+    ends-by : (at : ℕ) {next i : ℕ} → next ≡ onward tape 1 at → Ends next i → Ends at i
+    ends-by at e (k, p) = (k + 1, p ∙ ap (onward tape k) e ∙ onward-onward k 1 at)
+
+    ends-then : (at : ℕ) {i j : ℕ} → Ends at i → Ends i j → Ends at j
+    ends-then at (k, p) (l, q) = (l + k, q ∙ ap (onward tape l) p ∙ onward-onward l k at)
+
+    leaf-ends : (at : ℕ) → Ends at (leaf tape numbers place at .0)
+    unfolding leaf onward
+    leaf-ends at = go (eqb (getD (bytesAt tape at) 0 0) number) (eqb (getD (bytesAt tape at) 0 0) currentPlace) (isName (getD (bytesAt tape at) 0 0)) _ _ _
+      where
+        go : (p q r : Bool) (x y z : Value)
+            → Ends at (pick {A = Meaning} p (at + length (bytesAt tape at), x) (pick q (at + length (bytesAt tape at), y) (pick r (at + length (bytesAt tape at), z) (at, Refuses badRecord at))) .0)
+        go true q r x y z = (1, refl)
+        go false true r x y z = (1, refl)
+        go false false true x y z = (1, refl)
+        go false false false x y z = (0, refl)
+
+    expression-ends : (d at : ℕ) → Ends at (expression tape numbers place d at .0)
+    unfolding expression onward
+    expression-ends zero at = (0, refl)
+    expression-ends (suc d) at = go (innerAt tape at binary) refl (innerAt tape at flags) refl (expression-ends d)
+      where
+        go : (b : Option (ℕ × ℕ)) → innerAt tape at binary ≡ b → (f : Option (ℕ × ℕ)) → innerAt tape at flags ≡ f
+            → ((i : ℕ) → Ends i (expression tape numbers place d i .0))
+            → Ends at (expressionBy tape numbers place b (expression tape numbers place d) (factorBy tape numbers place f (expression tape numbers place d) at) at .0)
+        go (some (op, next)) p f q e = ends-by at (inner-next at binary p) (ends-then next (e next) (e (expression tape numbers place d next .0)))
+        go none p (some (b, next)) q e = ends-by at (inner-next at flags q) (e next)
+        go none p none q e = leaf-ends at
+
+  -- ---- two ways to number the names agree, if they do at each of its records
+
+  module _ (f g : ℕ → Option ℤ) (place : ℤ) where
+    abbrev Agree : ℕ → Type 0
+    Agree at = (k : ℕ) → NameAt tape (onward tape k at) → f (onward tape k at) ≡ g (onward tape k at)
+
+    agree-on : (at : ℕ) {i : ℕ} → Agree at → Ends f place at i → Agree i
+    agree-on at a (j, p) k =
+        subst (λ (i : ℕ). NameAt tape i → f i ≡ g i) (sym (ap (onward tape k) p ∙ onward-onward k j at)) (a (k + j))
+
+    leaf-agrees : (at : ℕ) → Agree at → leaf tape f place at ≡ leaf tape g place at
+    unfolding leaf onward NameAt
+    leaf-agrees at a = go (eqb (getD (bytesAt tape at) 0 0) number) (eqb (getD (bytesAt tape at) 0 0) currentPlace) (isName (getD (bytesAt tape at) 0 0)) (a 0) _ _
+      where
+        go : (p q r : Bool) → (r ≡ true → f at ≡ g at) → (x y : Meaning)
+            → pick {A = Meaning} p x (pick q y (pick r (at + length (bytesAt tape at), named (getD (bytesAt tape at) 1 0) at (f at)) (at, Refuses badRecord at)))
+            ≡ pick p x (pick q y (pick r (at + length (bytesAt tape at), named (getD (bytesAt tape at) 1 0) at (g at)) (at, Refuses badRecord at)))
+        go true q r e x y = refl
+        go false true r e x y = refl
+        go false false true e x y = rw (e refl)
+        go false false false e x y = refl
+
+    pub expression-agrees : (d at : ℕ) → Agree at → expression tape f place d at ≡ expression tape g place d at
+    unfolding expression
+    expression-agrees zero at a = refl
+    expression-agrees (suc d) at a = go (innerAt tape at binary) refl (innerAt tape at flags) refl (expression-agrees d)
+      where
+        go : (b : Option (ℕ × ℕ)) → innerAt tape at binary ≡ b → (h : Option (ℕ × ℕ)) → innerAt tape at flags ≡ h
+            → ((i : ℕ) → Agree i → expression tape f place d i ≡ expression tape g place d i)
+            → expressionBy tape f place b (expression tape f place d) (factorBy tape f place h (expression tape f place d) at) at
+            ≡ expressionBy tape g place b (expression tape g place d) (factorBy tape g place h (expression tape g place d) at) at
+        go (some (op, next)) p h q e =
+            let here : Agree next = agree-on at a (1, inner-next at binary p) in
+            let left = e next here in
+            let right = e (expression tape f place d next .0) (agree-on next here (expression-ends f place d next)) in
+            rw (right, left)
+        go none p (some (b, next)) q e = rw (e next (agree-on at a (1, inner-next at flags q)))
+        go none p none q e = leaf-agrees at a

@@ -1,0 +1,7 @@
+-- Laws of values and of meanings; and that each public call allows one answer.
+pub mod Values
+pub mod Meanings
+pub mod Along
+pub mod Resolving
+pub mod Evaluates
+pub mod Unique

@@ -1,0 +1,5 @@
+-- The definitions that the contracts of this crate cite.
+pub mod Expression
+pub mod Evaluate
+pub mod Says
+pub mod Steps

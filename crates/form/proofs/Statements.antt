@@ -1,0 +1,198 @@
+-- The statements from an offset on, one record at a time; and that the reading of a sound tape, record by record, is the walk
+-- over its statements. Assumes nothing.
+use mathlib.Core.Bool.{Bool, true, false}
+use mathlib.Core.List.{List, [], _∷_}
+use mathlib.Core.Path.{_≡_, refl, sym, ap, _∙_}
+use Prim.Native.Nat.{ℕ, zero, suc, _+_, _-_, _≤_, _<_}
+use native.Mathlib.Decide.{decLt}
+use native.Mathlib.Omega.{arith}
+use lib.Dec.{eqb, ltb}
+use lib.ListN.{length, getD, drop, drop-of-length-le}
+use borrow.Author.Tests.{ne-eqb, eqb-true, eqb-false, ltb-false}
+use Rattle.refusals.specs.Answer.{Answer, Done, Refused, pick}
+use Rattle.refusals.specs.AnswerAt.{AnswerAt, Fine, Fault}
+use Rattle.refusals.specs.Table.{argument, cutShort}
+use Rattle.refusals.proofs.Never.{never}
+use Rattle.tape.specs.Kinds.{end}
+use Rattle.tape.specs.Record.{bytesAt}
+use Rattle.tape.specs.Walk.{Out, Go, Stop, No, Walk, Between, Ended, Bad, land, run}
+use Rattle.tape.proofs.Records.{record-past}
+use Rattle.tape.proofs.Walks.{run-bad, walk-record}
+use Rattle.form.specs.Form.{Pending, top, begin, maxTape, headOf, faultOf, after, stepOf, readFrom, closed, tapeForm, formOf}
+use Rattle.form.specs.Statements.{Statement, statementOf, isLast, isInner, statementsFrom, statementsAt, statements, overStatements, outOf, readStatement, walkedTo}
+use Rattle.form.proofs.Reading.{head-known, read-bad, read-behind, read-head, read-short, read-within, read-record}
+
+-- ---- the statements from an offset on
+
+-- a record that is not the last one has bytes
+not-empty : (r : List ℕ) → isLast r ≡ false → 0 < length r
+not-empty [] e = never (cc)
+not-empty (k ∷ r) e = omega arith
+
+past : (n : ℕ) (tape : List ℕ) (at : ℕ) → length tape ≤ at → statementsFrom n tape at ≡ []
+unfolding statementsFrom
+past zero tape at h = refl
+past (suc n) tape at h = rw (record-past tape at h)
+
+-- to look for more records than the tape can have changes nothing
+enough : (n m : ℕ) (tape : List ℕ) (at : ℕ) → length tape ≤ at + n → length tape ≤ at + m
+    → statementsFrom n tape at ≡ statementsFrom m tape at
+unfolding statementsFrom
+enough zero m tape at x y = sym (past m tape at (omega arith))
+enough (suc n) zero tape at x y = past (suc n) tape at (omega arith)
+enough (suc n) (suc m) tape at x y =
+    let r = bytesAt tape at in
+    go r (isLast r) _ _ (λ e. enough n m tape (at + length r) (omega (arith, not-empty r e)) (omega (arith, not-empty r e)))
+  where
+    go : (r : List ℕ) (t : Bool) (xs ys : List Statement) → (t ≡ false → xs ≡ ys)
+        → pick t [] (pick (isInner r) xs (statementOf at r ∷ xs)) ≡ pick t [] (pick (isInner r) ys (statementOf at r ∷ ys))
+    go r true xs ys same = refl
+    go r false xs ys same = rw (same refl)
+
+module _ (tape : List ℕ) (at : ℕ) where
+  pub statements-past : length tape ≤ at → statementsAt tape at ≡ []
+  unfolding statementsAt
+  statements-past h = past _ tape at h
+
+  pub statements-last : isLast (bytesAt tape at) ≡ true → statementsAt tape at ≡ []
+  unfolding statementsAt statementsFrom
+  statements-last e = go (length tape - at)
+    where
+      go : (n : ℕ) → statementsFrom n tape at ≡ []
+      go zero = refl
+      go (suc n) = rw e
+
+  module _ (more : isLast (bytesAt tape at) ≡ false) where
+    step : statementsAt tape at
+        ≡ pick (isInner (bytesAt tape at)) (statementsAt tape (at + length (bytesAt tape at)))
+        (statementOf at (bytesAt tape at) ∷ statementsAt tape (at + length (bytesAt tape at)))
+    unfolding statementsAt statementsFrom
+    step =
+        let next = at + length (bytesAt tape at) in
+        enough (length tape - at) (suc (length tape)) tape at (omega arith) (omega arith)
+        ∙ rw (more, enough (length tape) (length tape - next) tape next (omega arith) (omega arith))
+
+    -- a record of an expression is passed over
+    pub statements-inner : isInner (bytesAt tape at) ≡ true → statementsAt tape at ≡ statementsAt tape (at + length (bytesAt tape at))
+    statements-inner e = step ∙ rw e
+
+    pub statements-one : isInner (bytesAt tape at) ≡ false
+        → statementsAt tape at ≡ statementOf at (bytesAt tape at) ∷ statementsAt tape (at + length (bytesAt tape at))
+    statements-one e = step ∙ rw e
+
+-- ---- a sound tape, from an offset on, where p is pending
+
+abbrev Sound : List ℕ → ℕ → Pending → Type 0
+Sound tape at p = closed false (readFrom false (Between p at) (drop at tape)) ≡ Fine tt
+
+also-fine : {w v : Walk Pending} → w ≡ v → closed false w ≡ Fine tt → closed false v ≡ Fine tt
+also-fine e fine = sym (ap (closed false) e) ∙ fine
+
+module _ (tape : List ℕ) (at : ℕ) where
+  abbrev here : List ℕ
+  here = bytesAt tape at
+
+  abbrev next : ℕ
+  next = at + length here
+
+  module _ (p : Pending) (sound : Sound tape at p) where
+    -- a record stands there
+    sound-inside : at < length tape
+    unfolding readFrom
+    sound-inside =
+        elim (decLt at (length tape)) [
+          | yes h ↦ h
+          | no h ↦ let past : length tape ≤ at = omega arith in let fine = rw (drop-of-length-le tape past) at sound in never (cc)
+        ]
+
+    -- its kind is in its place
+    sound-head : headOf false p (getD tape at 0) ≡ 0
+    sound-head = go (eqb (headOf false p (getD tape at 0)) 0) refl
+      where
+        go : (t : Bool) → eqb (headOf false p (getD tape at 0)) 0 ≡ t → headOf false p (getD tape at 0) ≡ 0
+        go true e = eqb-true _ 0 e
+        go false e = let fine = also-fine (read-head false tape at p sound-inside (eqb-false _ 0 e)) sound in never (cc)
+
+    -- it is whole
+    sound-whole : length here ≡ 0 → ⊥
+    sound-whole z = let fine = also-fine (read-short false tape at p sound-inside sound-head z) sound in never (cc)
+
+    -- it is not refused
+    abbrev kept : Out Pending
+    kept = pick (eqb (getD here 0 0) end) (Stop p) (Go (after p here))
+
+    sound-kept : closed false (readFrom false (land kept at here) (drop next tape)) ≡ Fine tt
+    unfolding stepOf
+    sound-kept =
+        go (eqb (faultOf (p .scopes) here) 0) (faultOf (p .scopes) here)
+        (also-fine (read-record false tape at p sound-inside sound-head sound-whole) sound)
+      where
+        go : (t : Bool) (n : ℕ) → closed false (readFrom false (land (pick t kept (No n)) at here) (drop next tape)) ≡ Fine tt
+            → closed false (readFrom false (land kept at here) (drop next tape)) ≡ Fine tt
+        go true n fine = fine
+        go false n fine = let false-too = also-fine (read-bad false tape at n (drop next tape)) fine in never (cc)
+
+    -- behind the end record nothing stands
+    sound-end : eqb (getD here 0 0) end ≡ true → next ≡ length tape
+    sound-end e = go (ltb next (length tape)) refl (also-fine (read-behind false tape next p) (rw e at sound-kept))
+      where
+        go : (t : Bool) → ltb next (length tape) ≡ t → closed false (pick t (Bad cutShort next) (Ended p next)) ≡ Fine tt
+            → next ≡ length tape
+        go true e fine = never (cc)
+        go false e fine = omega (arith, ltb-false next (length tape) e, read-within false tape at p sound-inside sound-head sound-whole)
+
+    -- behind any other record the tape is sound
+    sound-on : eqb (getD here 0 0) end ≡ false → Sound tape next (after p here)
+    sound-on e = rw e at sound-kept
+
+    -- and only the end record is the last one
+    sound-last : {t : Bool} → eqb (getD here 0 0) end ≡ t → isLast here ≡ t
+    sound-last e = rw (ne-eqb (length here) 0 sound-whole, e)
+
+-- ---- the reading of a sound tape is the walk over its statements
+
+module _ (S : Type 0) (f : S → Statement → Answer S) (tape : List ℕ) where
+  abbrev reads : Walk S → ℕ → Walk S
+  reads w at = run S (λ s k. 0) (readStatement S f) w (drop at tape)
+
+  abbrev walked : S → ℕ → Walk S
+  walked s at = walkedTo (length tape) (overStatements S f s (statementsAt tape at))
+
+  -- over one record, if it is so behind it
+  walk-one : (s : S) (at : ℕ) (p : Pending) → Sound tape at p
+      → ((t : S) → eqb (getD (here tape at) 0 0) end ≡ false → reads (Between t (next tape at)) (next tape at) ≡ walked t (next tape at))
+      → reads (Between s at) at ≡ walked s at
+  walk-one s at p sound rest =
+      let kind = head-known false (top (p .depths)) (getD tape at 0) (sound-head tape at p sound) in
+      walk-record S (λ s k. 0) (readStatement S f) tape at s (sound-inside tape at p sound) refl kind (sound-whole tape at p sound)
+      ∙ go (eqb (getD (here tape at) 0 0) end) refl (isInner (here tape at)) refl (f s (statementOf at (here tape at))) refl
+    where
+      go : (a : Bool) → eqb (getD (here tape at) 0 0) end ≡ a → (b : Bool) → isInner (here tape at) ≡ b
+          → (x : Answer S) → f s (statementOf at (here tape at)) ≡ x
+          → reads (land (pick a (Stop s) (pick b (Go s) (outOf x))) at (here tape at)) (next tape at) ≡ walked s at
+      go true ends b inner x is =
+          let last = statements-last tape at (sound-last tape at p sound ends) in
+          let all = sound-end tape at p sound ends in
+          let past : length tape ≤ next tape at = omega arith in
+          rw (last, drop-of-length-le tape past, all)
+      go false more true inner x is = rest s more ∙ rw (statements-inner tape at (sound-last tape at p sound more) inner)
+      go false more false inner (Done t) is = rest t more ∙ rw (statements-one tape at (sound-last tape at p sound more) inner, is)
+      go false more false inner (Refused n) is =
+          run-bad S (λ s k. 0) (readStatement S f) n at (drop (next tape at) tape)
+          ∙ rw (statements-one tape at (sound-last tape at p sound more) inner, is)
+
+  -- over at most n bytes
+  walk-all : (n : ℕ) (s : S) (at : ℕ) (p : Pending) → length tape ≤ at + n → Sound tape at p → reads (Between s at) at ≡ walked s at
+  walk-all zero s at p most sound = absurd (omega (arith, sound-inside tape at p sound))
+  walk-all (suc n) s at p most sound =
+      let on : length tape ≤ next tape at + n = omega (arith, sound-whole tape at p sound) in
+      walk-one s at p sound (λ t more. walk-all n t (next tape at) (after p (here tape at)) on (sound-on tape at p sound more))
+
+pub walk-statements : (S : Type 0) (f : S → Statement → Answer S) (s : S) (tape : List ℕ) → tapeForm tape ≡ Fine tt
+    → run S (λ s k. 0) (readStatement S f) (Between s 0) tape ≡ walkedTo (length tape) (overStatements S f s (statements tape))
+unfolding formOf
+walk-statements S f s tape sound = walk-all S f tape (length tape) s 0 (begin false) (omega arith) (go (ltb maxTape (length tape)) sound)
+  where
+    go : (t : Bool) {x : AnswerAt (Unit {0})} → pick t (Fault argument 0) x ≡ Fine tt → x ≡ Fine tt
+    go true e = never (cc)
+    go false e = e

@@ -1,0 +1,4 @@
+-- The definitions that the contracts of this crate cite.
+pub mod Form
+pub mod Statements
+pub mod Steps
