@@ -2,23 +2,27 @@
 -- the very definition that a promise cites. Assumes nothing: these are definitions.
 use Prim.Native.Nat.{ℕ, _^_}
 use mathlib.Core.Path.{_≡_}
-use mathlib.Core.List.{List, [], _∷_}
+use mathlib.Core.List.{List, [], _∷_, _++_}
 use lib.IntN.{ℤ, pos, negℤ}
 use lib.ListN.{replicate}
 use Rattle.refusals.specs.Answer.{Answer, Done, Refused, mapped}
+use Rattle.refusals.specs.AnswerAt.{AnswerAt, Fine, Fault}
 use Rattle.refusals.specs.Each.{Each}
 use Rattle.refusals.specs.Table.{arithmetic, tooSmall, outside}
-use Rattle.int64.specs.Num.{Operator, Div, Mod, Shl, Shr, operated, fit, notOf}
-use Rattle.opcodes.specs.Encode.{encodeOf}
+use Rattle.int64.specs.Num.{modZ}
+use Rattle.opcodes.specs.Encode.{lowFirst, encodeOf}
 use Rattle.segment.specs.Segment.{size, begun, emit}
 use Rattle.text_encoding.specs.Petscreen.{petscreenOf}
+use Rattle.symbols.specs.Edges.{root}
+use Rattle.symbols.specs.Symbols.{new}
+use Rattle.tape.specs.Kinds as kind
+use Rattle.evaluator.specs.Evaluate.{evaluateOf}
 
 -- ---- questions and answers
 
 pub data Question : Type 0 where
   encode : (mnemonic mode suffix : ℕ) → ℤ → Question
-  operate : Operator → ℤ → ℤ → Question
-  notThenNeg : ℤ → Question
+  evaluate : List ℕ → Question
   petscreen : ℕ → Question
   emitAt : ℕ → List ℕ → Question
 
@@ -27,11 +31,15 @@ pub data Value : Type 0 where
   number : ℤ → Value
   range : (start end : ℕ) → Value
 
--- what the definitions answer
+-- a refusal without its place, which the marked cases do not name
+abbrev pub unplaced : {A : Type 0} → AnswerAt A → Answer A
+unplaced (Fine a) = Done a
+unplaced (Fault n at) = Refused n
+
+-- what the definitions answer; an expression is evaluated alone, in the table that has only the root
 abbrev pub answer : Question → Answer Value
 answer (encode mnemonic mode suffix z) = mapped bytes (encodeOf mnemonic mode suffix z)
-answer (operate op a b) = mapped number (operated op a b)
-answer (notThenNeg z) = mapped number (fit (negℤ (notOf z)))
+answer (evaluate bs) = mapped number (unplaced (evaluateOf bs new root (pos 0)))
 answer (petscreen c) = Done (bytes (petscreenOf c ∷ []))
 answer (emitAt place bs) = mapped (λ pen. range (pen .start) (pen .end)) (emit (begun place place) (replicate size 0) bs)
 
@@ -67,6 +75,33 @@ none = 0
 abbrev Y : ℕ
 Y = 2
 
+-- operators
+abbrev Div : ℕ
+Div = 3
+
+abbrev Mod : ℕ
+Mod = 4
+
+abbrev Shl : ℕ
+Shl = 5
+
+abbrev Shr : ℕ
+Shr = 6
+
+-- flags
+abbrev NotNeg : ℕ
+NotNeg = 3
+
+-- records: a number, an operator with left and right, flags with an expression
+abbrev num : ℤ → List ℕ
+num z = kind.number ∷ lowFirst 8 (modZ (2 ^ 64) z)
+
+abbrev operate : ℕ → ℤ → ℤ → List ℕ
+operate op a b = kind.binary ∷ op ∷ num a ++ num b
+
+abbrev flag : ℕ → ℤ → List ℕ
+flag f z = kind.flags ∷ f ∷ num z
+
 abbrev minus : ℕ → ℤ
 minus n = negℤ (pos n)
 
@@ -94,17 +129,17 @@ marked =
     -- 6. STX AbsoluteOrZp,Y 256: 12
     encode STX AbsoluteOrZp Y (pos 256) gives Refused tooSmall ∷
     -- 7. 7/0 and 7%0: 0
-    operate Div (pos 7) (pos 0) gives is (pos 0) ∷
-    operate Mod (pos 7) (pos 0) gives is (pos 0) ∷
+    evaluate (operate Div (pos 7) (pos 0)) gives is (pos 0) ∷
+    evaluate (operate Mod (pos 7) (pos 0)) gives is (pos 0) ∷
     -- 8. -7/2: -3; -7%2: -1
-    operate Div (minus 7) (pos 2) gives is (minus 3) ∷
-    operate Mod (minus 7) (pos 2) gives is (minus 1) ∷
+    evaluate (operate Div (minus 7) (pos 2)) gives is (minus 3) ∷
+    evaluate (operate Mod (minus 7) (pos 2)) gives is (minus 1) ∷
     -- 9. 1<<63: smallest i64; 1<<64: 10; -5>>1: -3
-    operate Shl (pos 1) (pos 63) gives is (minus (2 ^ 63)) ∷
-    operate Shl (pos 1) (pos 64) gives Refused arithmetic ∷
-    operate Shr (minus 5) (pos 1) gives is (minus 3) ∷
+    evaluate (operate Shl (pos 1) (pos 63)) gives is (minus (2 ^ 63)) ∷
+    evaluate (operate Shl (pos 1) (pos 64)) gives Refused arithmetic ∷
+    evaluate (operate Shr (minus 5) (pos 1)) gives is (minus 3) ∷
     -- 10. NOT with NEG on 0: -1
-    notThenNeg (pos 0) gives is (minus 1) ∷
+    evaluate (flag NotNeg (pos 0)) gives is (minus 1) ∷
     -- 11. Petscreen ff: 5e; c0: 40
     petscreen 0xff gives are (0x5e ∷ []) ∷
     petscreen 0xc0 gives are (0x40 ∷ []) ∷
