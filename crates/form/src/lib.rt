@@ -98,16 +98,12 @@ fn check(bytes: &[u8], alone: bool) -> OutcomeAt
         let out = step(s, rec);
         let next = out.next;
         match next {
-            Next::No(f) => {
-                return refused(f, at);
-            }
-            Next::Stop => {
-                return ended(at + n, len);
-            }
+            Next::No(f) => return refused(f, at),
+            Next::Stop => return ended(at + n, len),
             Next::Go => {
                 let t = out.state;
                 s = t;
-                at = at + n;
+                at += n;
             }
         }
     }
