@@ -3,7 +3,7 @@ use mathlib.Core.Bool.{Bool, true, false}
 use mathlib.Core.List.{List}
 use mathlib.Core.Option.{Option, none, some}
 use mathlib.Core.Path.{_≡_, refl, sym, ap, _∙_, subst}
-use Prim.Native.Nat.{ℕ, zero, suc, _+_, _-_, _≤_, _<_}
+use Prim.Native.Nat.{ℕ, zero, suc, _+_, _-_, _≤_}
 use native.Mathlib.Nat.{add-zero, add-suc}
 use native.Mathlib.Omega.{arith}
 use lib.Dec.{eqb}
@@ -14,7 +14,7 @@ use Rattle.refusals.specs.Answer.{pick}
 use Rattle.refusals.specs.Table.{badRecord}
 use Rattle.tape.specs.Kinds.{number, currentPlace, flags, binary, isName}
 use Rattle.tape.specs.Record.{bytesAt}
-use Rattle.evaluator.specs.Expression.{Value, Number, Refuses, Meaning, changed, joined, named, innerAt, leaf, factorBy, expressionBy, expression}
+use Rattle.evaluator.specs.Expression.{Value, Refuses, Meaning, named, innerAt, leaf, factorBy, expressionBy, expression}
 use Rattle.evaluator.specs.Steps.{onward, NameAt}
 
 -- ---- records on

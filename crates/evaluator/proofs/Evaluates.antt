@@ -4,12 +4,12 @@ use mathlib.Core.Bool.{Bool, true, false}
 use mathlib.Core.List.{List}
 use mathlib.Core.Option.{Option, none, some}
 use mathlib.Core.Path.{_≡_, refl, sym, ap, _∙_}
-use Prim.Native.Nat.{ℕ, suc, _+_, _≤_, _<_}
+use Prim.Native.Nat.{ℕ, _≤_, _<_}
 use native.Mathlib.Numerals.{add-one}
 use native.Mathlib.Omega.{arith}
 use lib.Dec.{ltb}
 use lib.IntN.{ℤ}
-use lib.ListN.{length, getD}
+use lib.ListN.{length}
 use borrow.Author.Tests.{le-leb, lt-ltb, ltb-false}
 use mir.Facts.{toZ-ofZ}
 use mir.Syntax.{w64}
@@ -19,8 +19,8 @@ use Rattle.refusals.specs.Answer.{Answer, Done, pick}
 use Rattle.refusals.specs.AnswerAt.{AnswerAt, Fine, Fault}
 use Rattle.refusals.specs.Table.{argument, unresolved}
 use Rattle.symbols.specs.declared.SymbolTable.{SymbolTable}
-use Rattle.symbols.specs.Edges.{queryOf, edgesIn}
-use Rattle.symbols.specs.Symbols.{edgesOf, isNode, numberAt, queryEdges}
+use Rattle.symbols.specs.Edges.{queryOf}
+use Rattle.symbols.specs.Symbols.{edgesOf, isNode, queryEdges}
 use Rattle.symbols.proofs.Kept.{node-is, query-node}
 use Rattle.tape.specs.Record.{bytesAt}
 use Rattle.tape.proofs.Records.{record-most}
@@ -32,7 +32,7 @@ use Rattle.evaluator.specs.declared.Value.the-variants as came
 use Rattle.evaluator.specs.Expression.{Value, Meaning, expression}
 use Rattle.evaluator.specs.Says.{saysValue}
 use Rattle.evaluator.specs.Evaluate.{read, byNode, fromNodes, fromScope, expressionAt, answered, evaluateOf}
-use Rattle.evaluator.specs.Steps.{onward, NameAt, noted, Resolved, valueFrom}
+use Rattle.evaluator.specs.Steps.{onward, noted, Resolved, valueFrom}
 use Rattle.evaluator.proofs.Along.{expression-agrees}
 use Rattle.evaluator.proofs.Values.{back}
 

@@ -1,9 +1,9 @@
 -- Values: what arithmetic, flags, operators and names make of them. An i64 that was handed on comes back as `back`.
 -- Assumes nothing.
 use mathlib.Core.List.{List}
-use mathlib.Core.Option.{Option, none, some}
+use mathlib.Core.Option.{none, some}
 use mathlib.Core.Path.{_≡_, refl, sym, ap, _∙_}
-use Prim.Native.Nat.{ℕ, zero, suc, _+_, _-_, _≤_, _<_, _^_}
+use Prim.Native.Nat.{ℕ, zero, suc, _-_, _≤_, _<_, _^_}
 use native.Mathlib.Omega.{arith}
 use lib.IntN.{ℤ, pos, negℤ}
 use lib.ListN.{length, getD, List·getD-eq-default}
@@ -12,7 +12,7 @@ use borrow.Author.Tests.{eq-eqb, ne-eqb, lt-ltb, le-ltb}
 use mir.Facts.{toZ-ofZ, toZ-pos}
 use mir.Syntax.{w64}
 use mir.Val.{toZ, ofZ, SFits}
-use Rattle.refusals.specs.Answer.{Answer, Done, Refused}
+use Rattle.refusals.specs.Answer.{Answer, Done}
 use Rattle.int64.specs.declared.Number as N
 use Rattle.int64.specs.declared.Number.the-variants as number
 use Rattle.int64.specs.Num.{fit, notOf, lowByte, highByte, applied}

@@ -44,10 +44,6 @@ Resolved tape links edges scope nodes = (k : ℕ) → NotedAt tape links edges s
 unfoldable pub noteOf : List ℕ → ℕ → List ℕ → List ℕ → ℕ → ℕ → List ℕ
 noteOf nodes at r links edges scope = pick (isName (getD r 0 0)) (set nodes at (noted (nodeOf links edges scope r))) nodes
 
--- the longest expression whose names are noted in a small array
-abbrev pub short : ℕ
-short = 256
-
 -- the value of an expression alone, its names resolved in these edges from a scope
 unfoldable pub valueFrom : List ℕ → List ℕ → ℕ → List Bool → List ℤ → ℕ → ℤ → Value
 valueFrom bytes links edges known number scope place =

@@ -27,7 +27,7 @@ ghost use Rattle.form.specs.Form.{maxTape};
 ghost use Rattle.evaluator.specs.Expression as E;
 ghost use Rattle.evaluator.specs.Expression.{Refuses, valued, joined, changed, flagged, modified, named, innerAt, leaf, expression, factor};
 ghost use Rattle.evaluator.specs.Evaluate.{fromNodes, expressionAt, answered, evaluateOf};
-ghost use Rattle.evaluator.specs.Steps.{short, noted, noteOf, Resolved, valueFrom};
+ghost use Rattle.evaluator.specs.Steps.{noted, noteOf, Resolved, valueFrom};
 ghost use Rattle.evaluator.specs.Says.{saysValue, saysStep, saysInner, saysEvaluated};
 
 // The longest expression whose names are noted in a small array.
@@ -350,7 +350,7 @@ fn answer(value: Value) -> Evaluated
     }
 }
 
-// The value of an expression alone.
+// The value of an expression alone. The nodes of its names are noted in an array, a small one where that is enough.
 fn value_alone<'a>(
     bytes: &'a [u8],
     links: &'a [u16; WORDS],
@@ -364,14 +364,34 @@ fn value_alone<'a>(
     ensures { λ r. ⌜ saysValue r ≡ valueFrom (now (bytes .entry)) (now (links .entry)) edges (now (known .entry)) (now (number .entry)) scope place ⌝ }
 {
     if bytes.len() <= SHORT {
-        short_value(bytes, links, edges, known, number, scope, place)
+        let mut nodes = [0u16; SHORT];
+        value_with(
+            bytes,
+            links,
+            edges,
+            known,
+            number,
+            scope,
+            place,
+            &mut nodes[..],
+        )
     } else {
-        long_value(bytes, links, edges, known, number, scope, place)
+        let mut nodes = [0u16; LONGEST];
+        value_with(
+            bytes,
+            links,
+            edges,
+            known,
+            number,
+            scope,
+            place,
+            &mut nodes[..],
+        )
     }
 }
 
-// The value of a short expression: the nodes of its names are noted in a small array.
-fn short_value<'a>(
+// The same, with memory for the notes.
+fn value_with<'a>(
     bytes: &'a [u8],
     links: &'a [u16; WORDS],
     edges: usize,
@@ -379,32 +399,13 @@ fn short_value<'a>(
     number: &'a [i64; NODES],
     scope: u16,
     place: i64,
+    nodes: &mut [u16],
 ) -> Value
-    requires { ⌜ length (now bytes) ≤ short ⌝ }
+    requires { ⌜ length (now bytes) ≤ length (now nodes) ⌝ }
     ensures { λ r. ⌜ saysValue r ≡ valueFrom (now (bytes .entry)) (now (links .entry)) edges (now (known .entry)) (now (number .entry)) scope place ⌝ }
 {
-    let mut nodes = [0u16; SHORT];
-    resolve(bytes, links, edges, scope, &mut nodes[..]);
-    let step = expression_at(bytes, &nodes[..], known, number, place, 0);
-    step.value
-}
-
-// The same of any other.
-fn long_value<'a>(
-    bytes: &'a [u8],
-    links: &'a [u16; WORDS],
-    edges: usize,
-    known: &'a [bool; NODES],
-    number: &'a [i64; NODES],
-    scope: u16,
-    place: i64,
-) -> Value
-    requires { ⌜ length (now bytes) ≤ maxTape ⌝ }
-    ensures { λ r. ⌜ saysValue r ≡ valueFrom (now (bytes .entry)) (now (links .entry)) edges (now (known .entry)) (now (number .entry)) scope place ⌝ }
-{
-    let mut nodes = [0u16; LONGEST];
-    resolve(bytes, links, edges, scope, &mut nodes[..]);
-    let step = expression_at(bytes, &nodes[..], known, number, place, 0);
+    resolve(bytes, links, edges, scope, nodes);
+    let step = expression_at(bytes, nodes, known, number, place, 0);
     step.value
 }
 

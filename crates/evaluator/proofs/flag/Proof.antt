@@ -1,6 +1,4 @@
 -- By the number of the flags. Assumes nothing.
-use mir.Syntax.{w64}
-use mir.Val.{SFits}
 use Rattle.evaluator.proofs.Values as values
 use borrow.Author.Needs.{needs}
 use Rattle.evaluator.proofs.flag.Statement.{statement}

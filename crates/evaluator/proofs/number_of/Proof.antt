@@ -1,7 +1,5 @@
 -- Each way out is one of the answers at an offset. Assumes nothing.
 use native.Mathlib.Omega.{arith}
-use mir.Syntax.{w64}
-use mir.Val.{SFits}
 use Rattle.evaluator.proofs.Values as values
 use borrow.Author.Needs.{needs}
 use Rattle.evaluator.proofs.number_of.Statement.{statement}

@@ -6,9 +6,6 @@ use Rattle.refusals.specs.AnswerAt.{Fine, mapped}
 use Rattle.tape.proofs.Records as records
 use Rattle.tape.proofs.find.Statement.{statement}
 use Rattle.tape.proofs.find.Tie as tie
-use Rattle.tape.proofs.find.Reads as reads
-use Rattle.tape.proofs.find.Lts as lts
-use Rattle.tape.proofs.size.Reads as size-reads
 
 returns : tie.Need-returns
 returns c = sym (ap (mapped length) (records.record-past _ _ (c .if1 .taken)))

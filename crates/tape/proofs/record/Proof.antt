@@ -11,9 +11,6 @@ use Rattle.tape.specs.Says.{saysFound}
 use Rattle.tape.proofs.Records as records
 use Rattle.tape.proofs.record.Statement.{statement}
 use Rattle.tape.proofs.record.Tie as tie
-use Rattle.tape.proofs.record.Reads as reads
-use Rattle.tape.proofs.record.Lts as lts
-use Rattle.tape.proofs.find.Reads as find-reads
 
 -- what `find` told where a whole record stands
 told : (c : tie.After-known-told) → Fine (c .before .n .given .0 .0) ≡ mapped length (recordAt (now (c .before .before .before .before .before .args .tape)) (c .before .before .before .before .before .args .at))

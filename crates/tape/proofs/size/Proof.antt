@@ -4,8 +4,6 @@ use borrow.Author.Tests.{ne-eqb}
 use Rattle.tape.specs.Kinds.{sizeOf}
 use Rattle.tape.proofs.size.Statement.{statement}
 use Rattle.tape.proofs.size.Tie as tie
-use Rattle.tape.proofs.size.Reads as reads
-use Rattle.tape.proofs.size.Lts as lts
 
 returns : tie.Need-returns
 unfolding sizeOf
