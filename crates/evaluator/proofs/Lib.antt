@@ -4,4 +4,5 @@ pub mod Meanings
 pub mod Along
 pub mod Resolving
 pub mod Evaluates
+pub mod Accepted
 pub mod Unique

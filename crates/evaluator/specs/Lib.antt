@@ -3,3 +3,4 @@ pub mod Expression
 pub mod Evaluate
 pub mod Says
 pub mod Steps
+pub mod Accepted

@@ -16,92 +16,6 @@ use Rattle.refusals.specs.Table.{badRecord, cutShort}
 use Rattle.tape.specs.Kinds.{instruction, Row, table, lookup, sizeOf, isExpression, isStatement}
 use Rattle.tape.specs.Record.{recordOf, recordAt, bytesAt}
 
-module _ (tape : List ℕ) (at : ℕ) where
-  -- ---- the four answers
-
-  pub record-past : length tape ≤ at → recordAt tape at ≡ Fault cutShort (length tape)
-  unfolding recordAt
-  record-past h = rw (drop-of-length-le tape h)
-
-  -- the kind k that stands there has size n
-  module _ (n : ℕ) (inside : at < length tape) (is : n ≡ sizeOf (getD tape at 0)) where
-    abbrev by : ℕ → AnswerAt (List ℕ)
-    by m = pick (eqb n 0) (Fault badRecord at) (pick (leb n m) (Fine (take n (drop at tape))) (Fault cutShort at))
-
-    record-by : recordAt tape at ≡ by (length tape - at)
-    unfolding recordAt
-    record-by = go (drop at tape) (drop-cons tape at 0 inside) (length-drop at tape)
-      where
-        go : (l : List ℕ) → l ≡ getD tape at 0 ∷ drop (suc at) tape → length l ≡ length tape - at
-            → recordOf (length tape) at l ≡ pick (eqb n 0) (Fault badRecord at) (pick (leb n (length tape - at)) (Fine (take n l)) (Fault cutShort at))
-        go l e h = rw (← h, e, is)
-
-    pub record-unknown : n ≡ 0 → recordAt tape at ≡ Fault badRecord at
-    record-unknown z = record-by ∙ rw (eq-eqb n 0 z)
-
-    pub record-cut : (n ≡ 0 → ⊥) → length tape - at < n → recordAt tape at ≡ Fault cutShort at
-    record-cut z h = record-by ∙ rw (ne-eqb n 0 z, lt-leb n _ h)
-
-    pub record-whole : (n ≡ 0 → ⊥) → n ≤ length tape - at → recordAt tape at ≡ Fine (take n (drop at tape))
-    record-whole z h = record-by ∙ rw (ne-eqb n 0 z, le-leb n _ h)
-
-    pub whole-length : n ≤ length tape - at → length (take n (drop at tape)) ≡ n
-    whole-length h = length-take-le n (drop at tape) (rw (length-drop at tape) h)
-
-  -- ---- where a kind stands
-
-  module _ (inside : at < length tape) (kind : sizeOf (getD tape at 0) ≡ 0 → ⊥) where
-    -- no byte of the record is there only where it is cut short
-    pub record-none : length (bytesAt tape at) ≡ 0 → length tape - at < sizeOf (getD tape at 0)
-    record-none z = go (leb (sizeOf (getD tape at 0)) (length tape - at)) refl
-      where
-        go : (t : Bool) → leb (sizeOf (getD tape at 0)) (length tape - at) ≡ t → length tape - at < sizeOf (getD tape at 0)
-        go true e =
-            let h : sizeOf (getD tape at 0) ≤ length tape - at = leb-true _ _ e in
-            absurd (kind (sym (whole-length _ inside refl h) ∙ ap (λ (a : AnswerAt (List ℕ)). length (part a)) (sym (record-whole _ inside refl kind h)) ∙ z))
-        go false e = leb-false _ _ e
-
-    -- else it is those bytes, as many as its kind says
-    pub record-some : (length (bytesAt tape at) ≡ 0 → ⊥) → (bytesAt tape at ≡ take (sizeOf (getD tape at 0)) (drop at tape)) × (sizeOf (getD tape at 0) ≤ length tape - at)
-    record-some z = go (leb (sizeOf (getD tape at 0)) (length tape - at)) refl
-      where
-        go : (t : Bool) → leb (sizeOf (getD tape at 0)) (length tape - at) ≡ t → (bytesAt tape at ≡ take (sizeOf (getD tape at 0)) (drop at tape)) × (sizeOf (getD tape at 0) ≤ length tape - at)
-        go true e = let h : sizeOf (getD tape at 0) ≤ length tape - at = leb-true _ _ e in (ap part (record-whole _ inside refl kind h), h)
-        go false e = absurd (z (ap (λ (a : AnswerAt (List ℕ)). length (part a)) (record-cut _ inside refl kind (leb-false _ _ e))))
-
-  -- ---- what its length tells
-
-  -- n is the length of a whole record: those n bytes are it, and they lie within the tape
-  abbrev Whole : ℕ → AnswerAt (List ℕ) → Type 0
-  Whole n a = (at + n ≤ length tape) × (take n (drop at tape) ≡ part a)
-
-  pub found-whole : (n : ℕ) → Fine n ≡ mapped length (recordAt tape at) → Whole n (recordAt tape at)
-  found-whole n e = elim (decLt at (length tape)) [ yes h ↦ go h (eqb (sizeOf (getD tape at 0)) 0) refl (leb (sizeOf (getD tape at 0)) (length tape - at)) refl | no h ↦ never (let p = record-past (omega arith) in cc) ]
-    where
-      go : at < length tape → (a : Bool) → eqb (sizeOf (getD tape at 0)) 0 ≡ a → (b : Bool) → leb (sizeOf (getD tape at 0)) (length tape - at) ≡ b → Whole n (recordAt tape at)
-      go h true p b q = never (let r = record-unknown _ h refl (eqb-true _ 0 p) in cc)
-      go h false p true q =
-          let most = leb-true _ _ q in
-          let r = record-whole _ h refl (eqb-false _ 0 p) most in
-          let is : n ≡ sizeOf (getD tape at 0) = let f : Fine n ≡ Fine (length (take (sizeOf (getD tape at 0)) (drop at tape))) = e ∙ ap (mapped length) r in let g : n ≡ length (take (sizeOf (getD tape at 0)) (drop at tape)) = cc in g ∙ whole-length _ h refl most in
-          (omega arith, ap (λ (m : ℕ). take m (drop at tape)) is ∙ ap part (sym r))
-      go h false p false q = never (let r = record-cut _ h refl (eqb-false _ 0 p) (leb-false _ _ q) in cc)
-
-  pub found-none : (n i : ℕ) → Fault n i ≡ mapped length (recordAt tape at) → [] ≡ bytesAt tape at
-  found-none n i e = go (recordAt tape at) e
-    where
-      go : (a : AnswerAt (List ℕ)) → Fault n i ≡ mapped length a → [] ≡ part a
-      go (Fine bs) e = never (cc)
-      go (Fault m j) e = refl
-
-  -- a record ends within the tape, or, where there is none, where it began
-  pub record-end : (m : ℕ) → at ≤ m → length tape ≤ m → at + length (bytesAt tape at) ≤ m
-  record-end m h l = go (recordAt tape at) refl
-    where
-      go : (a : AnswerAt (List ℕ)) → recordAt tape at ≡ a → at + length (part a) ≤ m
-      go (Fine bs) e = let w = found-whole (length bs) (sym (ap (mapped length) e)) in omega (arith, w .0)
-      go (Fault n i) e = omega arith
-
 -- ---- kinds
 
 module _ (k n : ℕ) (is : n ≡ sizeOf k) where
@@ -140,16 +54,99 @@ pub size-most : (k : ℕ) → sizeOf k ≤ 10
 unfolding sizeOf
 size-most k = lookup-most table k (omega arith)
 
--- and so is no record of a tape
-pub record-most : (tape : List ℕ) (at : ℕ) → length (bytesAt tape at) ≤ 10
-record-most tape at = elim (decLt at (length tape)) [ yes h ↦ inside h | no h ↦ rw (record-past tape at (omega arith)) (omega arith) ]
-  where
-    inside : at < length tape → length (bytesAt tape at) ≤ 10
-    inside h = go (eqb (sizeOf (getD tape at 0)) 0) refl (leb (sizeOf (getD tape at 0)) (length tape - at)) refl
+-- ---- the record at an offset
+
+module _ (tape : List ℕ) (at : ℕ) where
+  -- past the end
+  pub record-past : length tape ≤ at → recordAt tape at ≡ Fault cutShort (length tape)
+  unfolding recordAt
+  record-past h = rw (drop-of-length-le tape h)
+
+  -- within the tape: n is the size of the kind that stands there, and so many bytes are left
+  abbrev left : ℕ
+  left = length tape - at
+
+  abbrev first : ℕ → List ℕ
+  first n = take n (drop at tape)
+
+  module _ (n : ℕ) (inside : at < length tape) (is : n ≡ sizeOf (getD tape at 0)) where
+    record-by : recordAt tape at ≡ pick (eqb n 0) (Fault badRecord at) (pick (leb n left) (Fine (first n)) (Fault cutShort at))
+    unfolding recordAt
+    record-by = go (drop at tape) (drop-cons tape at 0 inside) (length-drop at tape)
       where
-        go : (a : Bool) → eqb (sizeOf (getD tape at 0)) 0 ≡ a → (b : Bool) → leb (sizeOf (getD tape at 0)) (length tape - at) ≡ b → length (bytesAt tape at) ≤ 10
-        go true p b q = rw (record-unknown tape at _ h refl (eqb-true _ 0 p)) (omega arith)
-        go false p true q =
-            let most = leb-true _ _ q in
-            rw (record-whole tape at _ h refl (eqb-false _ 0 p) most, whole-length tape at _ h refl most) (size-most (getD tape at 0))
-        go false p false q = rw (record-cut tape at _ h refl (eqb-false _ 0 p) (leb-false _ _ q)) (omega arith)
+        go : (l : List ℕ) → l ≡ getD tape at 0 ∷ drop (suc at) tape → length l ≡ left
+            → recordOf (length tape) at l ≡ pick (eqb n 0) (Fault badRecord at) (pick (leb n left) (Fine (take n l)) (Fault cutShort at))
+        go l e h = rw (← h, e, is)
+
+    pub record-unknown : n ≡ 0 → recordAt tape at ≡ Fault badRecord at
+    record-unknown z = record-by ∙ rw (eq-eqb n 0 z)
+
+    pub record-cut : (n ≡ 0 → ⊥) → left < n → recordAt tape at ≡ Fault cutShort at
+    record-cut z h = record-by ∙ rw (ne-eqb n 0 z, lt-leb n _ h)
+
+    pub record-whole : (n ≡ 0 → ⊥) → n ≤ left → recordAt tape at ≡ Fine (first n)
+    record-whole z h = record-by ∙ rw (ne-eqb n 0 z, le-leb n _ h)
+
+    pub whole-length : n ≤ left → length (first n) ≡ n
+    whole-length h = length-take-le n (drop at tape) (rw (length-drop at tape) h)
+
+  -- what holds of each of these answers holds of the record
+  abbrev size : ℕ
+  size = sizeOf (getD tape at 0)
+
+  record-is : (P : AnswerAt (List ℕ) → Type 0) → (length tape ≤ at → P (Fault cutShort (length tape)))
+      → (size ≡ 0 → P (Fault badRecord at)) → ((size ≡ 0 → ⊥) → left < size → P (Fault cutShort at))
+      → ((size ≡ 0 → ⊥) → size ≤ left → at < length tape → length (first size) ≡ size → P (Fine (first size))) → P (recordAt tape at)
+  record-is P past unknown cut whole =
+      elim (decLt at (length tape)) [
+        | yes h ↦ go h (eqb size 0) refl (leb size left) refl
+        | no h ↦ let p : length tape ≤ at = omega arith in rw (record-past p) (past p)
+      ]
+    where
+      go : at < length tape → (a : Bool) → eqb size 0 ≡ a → (b : Bool) → leb size left ≡ b → P (recordAt tape at)
+      go h true p b q = rw (record-unknown size h refl (eqb-true size 0 p)) (unknown (eqb-true size 0 p))
+      go h false p true q =
+          let some = eqb-false size 0 p in
+          let most = leb-true size left q in
+          rw (record-whole size h refl some most) (whole some most h (whole-length size h refl most))
+      go h false p false q =
+          let some = eqb-false size 0 p in
+          let few = leb-false size left q in
+          rw (record-cut size h refl some few) (cut some few)
+
+  -- no record of a tape is longer than ten bytes
+  pub record-most : length (bytesAt tape at) ≤ 10
+  record-most = record-is (λ a. length (part a) ≤ 10) (λ h. omega arith) (λ h. omega arith) (λ some h. omega arith) (λ some h l e. omega (arith, size-most (getD tape at 0)))
+
+  -- n is the length of a whole record: those n bytes are it, and they lie within the tape
+  pub found-whole : (n : ℕ) → Fine n ≡ mapped length (recordAt tape at) → (at + n ≤ length tape) × (first n ≡ bytesAt tape at)
+  found-whole n =
+      record-is (λ a. Fine n ≡ mapped length a → (at + n ≤ length tape) × (first n ≡ part a)) (λ h e. never (cc)) (λ h e. never (cc)) (λ some h e. never (cc))
+      (λ some h l p e. let is : n ≡ size = number e ∙ p in (omega arith, ap first is))
+    where
+      number : {m : ℕ} → _≡_ {A = AnswerAt ℕ} (Fine n) (Fine m) → n ≡ m
+      number e = cc
+
+  pub found-none : (n i : ℕ) → Fault n i ≡ mapped length (recordAt tape at) → [] ≡ bytesAt tape at
+  found-none n i =
+      record-is (λ a. Fault n i ≡ mapped length a → [] ≡ part a) (λ h e. refl) (λ h e. refl) (λ some h e. refl) (λ some h l p e. never (cc))
+
+  -- a record ends within the tape, or, where there is none, where it began
+  pub record-end : (m : ℕ) → at ≤ m → length tape ≤ m → at + length (bytesAt tape at) ≤ m
+  record-end m h l =
+      record-is (λ a. at + length (part a) ≤ m) (λ p. omega arith) (λ p. omega arith) (λ some p. omega arith) (λ some p q e. omega arith)
+
+  -- ---- where a kind stands
+
+  module _ (inside : at < length tape) (kind : size ≡ 0 → ⊥) where
+    -- no byte of the record is there only where it is cut short
+    pub record-none : length (bytesAt tape at) ≡ 0 → left < size
+    record-none =
+        record-is (λ a. length (part a) ≡ 0 → left < size) (λ p e. absurd (omega arith)) (λ p e. absurd (kind p)) (λ some p e. p)
+        (λ some p q e z. absurd (kind (sym e ∙ z)))
+
+    -- else it is those bytes, as many as its kind says
+    pub record-some : (length (bytesAt tape at) ≡ 0 → ⊥) → (bytesAt tape at ≡ first size) × (size ≤ left)
+    record-some =
+        record-is (λ a. (length (part a) ≡ 0 → ⊥) → (part a ≡ first size) × (size ≤ left)) (λ p x. absurd (x refl)) (λ p x. absurd (x refl)) (λ some p x. absurd (x refl))
+        (λ some p q e x. (refl, p))

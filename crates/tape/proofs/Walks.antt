@@ -16,15 +16,16 @@ use Rattle.tape.specs.Record.{bytesAt}
 use Rattle.tape.specs.Walk.{Out, Go, Stop, No, Walk, Between, Within, Ended, Bad, land, opened, feed, run, mapOut, mapWalk}
 use Rattle.tape.proofs.Records.{record-none, record-some}
 
-grown : (m : ℕ) (bs : List ℕ) (b : ℕ) → length bs + suc m ≡ length (bs ++ b ∷ []) + m
-grown m bs b = rw (length-append bs (b ∷ [])) (omega arith)
-
-one : (m : ℕ) → suc m ≡ 1 + m
-one m = omega arith
-
 module _ (S : Type 0) (head : S → ℕ → ℕ) (step : S → ℕ → List ℕ → Out S) where
   abbrev reads : Walk S → List ℕ → Walk S
   reads w l = run S head step w l
+
+  -- with the first bytes of a record; and behind a whole one
+  abbrev begun : S → ℕ → List ℕ → Walk S
+  begun s at bs = opened S head step s at bs
+
+  abbrev behind : S → ℕ → List ℕ → Walk S
+  behind s at r = land (step s at r) at r
 
   -- ---- bytes
 
@@ -38,36 +39,45 @@ module _ (S : Type 0) (head : S → ℕ → ℕ) (step : S → ℕ → List ℕ 
   run-bad n at [] = refl
   run-bad n at (x ∷ l) = run-bad n at l
 
+  -- one byte more of a record
+  one-more : (bs : List ℕ) (b : ℕ) → length (bs ++ b ∷ []) ≡ length bs + 1
+  one-more bs b = length-append bs (b ∷ [])
+
+  same-kind : (bs : List ℕ) (b : ℕ) → 0 < length bs → sizeOf (getD (bs ++ b ∷ []) 0 0) ≡ sizeOf (getD bs 0 0)
+  same-kind bs b p = ap sizeOf (List·getD-append bs (b ∷ []) 0 0 p)
+
   -- m bytes are missing of the record that began with bs, and they come
   complete : (m : ℕ) (s : S) (at : ℕ) (bs l : List ℕ) → sizeOf (getD bs 0 0) ≡ length bs + m → 0 < length bs → m ≤ length l
-      → reads (opened S head step s at bs) l ≡ reads (land (step s at (bs ++ take m l)) at (bs ++ take m l)) (drop m l)
+      → reads (begun s at bs) l ≡ reads (behind s at (bs ++ take m l)) (drop m l)
   complete zero s at bs l e p h = rw (append-nil, le-leb (sizeOf (getD bs 0 0)) (length bs) (omega arith))
   complete (suc m) s at bs [] e p h = absurd (not-suc-le-zero h)
   complete (suc m) s at bs (b ∷ l) e p h =
       rw (lt-leb (sizeOf (getD bs 0 0)) (length bs) (omega arith), ← append-snoc bs b (take m l))
-      (complete m s at (bs ++ b ∷ []) l (ap sizeOf (List·getD-append bs (b ∷ []) 0 0 p) ∙ e ∙ grown m bs b) (rw (length-append bs (b ∷ [])) (omega arith)) (le-of-suc-le-suc h))
+      (complete m s at (bs ++ b ∷ []) l (omega (arith, one-more bs b, same-kind bs b p)) (omega (arith, one-more bs b)) (le-of-suc-le-suc h))
 
   -- they do not come
-  short : (s : S) (at : ℕ) (bs l : List ℕ) → length bs + length l < sizeOf (getD bs 0 0) → 0 < length bs → reads (opened S head step s at bs) l ≡ Within s at (bs ++ l)
+  short : (s : S) (at : ℕ) (bs l : List ℕ) → length bs + length l < sizeOf (getD bs 0 0) → 0 < length bs
+      → reads (begun s at bs) l ≡ Within s at (bs ++ l)
   short s at bs [] h p = rw (append-nil, lt-leb (sizeOf (getD bs 0 0)) (length bs) (omega arith))
   short s at bs (b ∷ l) h p =
       rw (lt-leb (sizeOf (getD bs 0 0)) (length bs) (omega arith), ← append-snoc bs b l)
-      (short s at (bs ++ b ∷ []) l (rw (length-append bs (b ∷ []), List·getD-append bs (b ∷ []) 0 0 p) (omega arith)) (rw (length-append bs (b ∷ [])) (omega arith)))
+      (short s at (bs ++ b ∷ []) l (omega (arith, one-more bs b, same-kind bs b p)) (omega (arith, one-more bs b)))
 
   -- ---- one record
 
   -- a whole one, whose kind is in its place
   pub run-record : (s : S) (at k : ℕ) (l : List ℕ) → head s k ≡ 0 → (sizeOf k ≡ 0 → ⊥) → sizeOf k ≤ length (k ∷ l)
-      → reads (Between s at) (k ∷ l) ≡ reads (land (step s at (take (sizeOf k) (k ∷ l))) at (take (sizeOf k) (k ∷ l))) (drop (sizeOf k) (k ∷ l))
+      → reads (Between s at) (k ∷ l) ≡ reads (behind s at (take (sizeOf k) (k ∷ l))) (drop (sizeOf k) (k ∷ l))
   run-record s at k l z p h = rw (eq-eqb (head s k) 0 z) (go (sizeOf k) refl p h)
     where
       go : (n : ℕ) → sizeOf k ≡ n → (n ≡ 0 → ⊥) → n ≤ length (k ∷ l)
-          → run S head step (opened S head step s at (k ∷ [])) l ≡ run S head step (land (step s at (take n (k ∷ l))) at (take n (k ∷ l))) (drop n (k ∷ l))
+          → reads (begun s at (k ∷ [])) l ≡ reads (behind s at (take n (k ∷ l))) (drop n (k ∷ l))
       go zero e q b = absurd (q refl)
-      go (suc m) e q b = complete m s at (k ∷ []) l (e ∙ one m) (omega arith) (le-of-suc-le-suc b)
+      go (suc m) e q b = complete m s at (k ∷ []) l (omega arith) (omega arith) (le-of-suc-le-suc b)
 
   -- one that is cut short
-  pub run-short : (s : S) (at k : ℕ) (l : List ℕ) → head s k ≡ 0 → length (k ∷ l) < sizeOf k → reads (Between s at) (k ∷ l) ≡ Within s at (k ∷ l)
+  pub run-short : (s : S) (at k : ℕ) (l : List ℕ) → head s k ≡ 0 → length (k ∷ l) < sizeOf k
+      → reads (Between s at) (k ∷ l) ≡ Within s at (k ∷ l)
   run-short s at k l z h = rw (eq-eqb (head s k) 0 z) (short s at (k ∷ []) l (omega arith) (omega arith))
 
   -- a kind out of its place
@@ -77,32 +87,43 @@ module _ (S : Type 0) (head : S → ℕ → ℕ) (step : S → ℕ → List ℕ 
   -- ---- the same in a tape, at an offset within it: the three turns of a loop over records
 
   module _ (tape : List ℕ) (at : ℕ) (s : S) (inside : at < length tape) where
-    pub walk-head : (head s (getD tape at 0) ≡ 0 → ⊥) → reads (Between s at) (drop at tape) ≡ Bad (head s (getD tape at 0)) at
-    walk-head z = rw (drop-cons tape at 0 inside) (run-head s at (getD tape at 0) (drop (suc at) tape) z)
+    abbrev kind : ℕ
+    kind = getD tape at 0
 
-    module _ (good : head s (getD tape at 0) ≡ 0) (kind : sizeOf (getD tape at 0) ≡ 0 → ⊥) where
-      pub walk-short : length (bytesAt tape at) ≡ 0 → reads (Between s at) (drop at tape) ≡ Within s at (drop at tape)
-      walk-short z = go (drop at tape) (drop-cons tape at 0 inside) (rw (length-drop at tape) (record-none tape at inside kind z))
+    abbrev here : List ℕ
+    here = bytesAt tape at
+
+    -- what is left of the tape begins with the kind
+    begins : drop at tape ≡ kind ∷ drop (suc at) tape
+    begins = drop-cons tape at 0 inside
+
+    pub walk-head : (head s kind ≡ 0 → ⊥) → reads (Between s at) (drop at tape) ≡ Bad (head s kind) at
+    walk-head z = rw begins (run-head s at kind (drop (suc at) tape) z)
+
+    module _ (good : head s kind ≡ 0) (known : sizeOf kind ≡ 0 → ⊥) where
+      pub walk-short : length here ≡ 0 → reads (Between s at) (drop at tape) ≡ Within s at (drop at tape)
+      walk-short z = go (drop at tape) begins (rw (length-drop at tape) (record-none tape at inside known z))
         where
-          go : (l : List ℕ) → l ≡ getD tape at 0 ∷ drop (suc at) tape → length l < sizeOf (getD tape at 0) → run S head step (Between s at) l ≡ Within s at l
-          go l e h = rw e (run-short s at (getD tape at 0) (drop (suc at) tape) good (rw e at h))
+          go : (l : List ℕ) → l ≡ kind ∷ drop (suc at) tape → length l < sizeOf kind → reads (Between s at) l ≡ Within s at l
+          go l e h = rw e (run-short s at kind (drop (suc at) tape) good (rw e at h))
 
-      pub walk-record : (length (bytesAt tape at) ≡ 0 → ⊥)
-          → reads (Between s at) (drop at tape) ≡ reads (land (step s at (bytesAt tape at)) at (bytesAt tape at)) (drop (at + length (bytesAt tape at)) tape)
+      pub walk-record : (length here ≡ 0 → ⊥)
+          → reads (Between s at) (drop at tape) ≡ reads (behind s at here) (drop (at + length here) tape)
       walk-record z =
-          let w = record-some tape at inside kind z in
-          let b : sizeOf (getD tape at 0) ≤ length (drop at tape) = rw (length-drop at tape) (w .1) in
-          let n : length (bytesAt tape at) ≡ sizeOf (getD tape at 0) = ap length (w .0) ∙ length-take-le (sizeOf (getD tape at 0)) (drop at tape) b in
-          go (drop at tape) (drop-cons tape at 0 inside) b ∙ rw (n, w .0, drop-drop (sizeOf (getD tape at 0)) at tape)
+          let w = record-some tape at inside known z in
+          let b : sizeOf kind ≤ length (drop at tape) = rw (length-drop at tape) (w .1) in
+          let n : length here ≡ sizeOf kind = ap length (w .0) ∙ length-take-le (sizeOf kind) (drop at tape) b in
+          go (drop at tape) begins b ∙ rw (n, w .0, drop-drop (sizeOf kind) at tape)
         where
-          go : (l : List ℕ) → l ≡ getD tape at 0 ∷ drop (suc at) tape → sizeOf (getD tape at 0) ≤ length l
-              → run S head step (Between s at) l ≡ run S head step (land (step s at (take (sizeOf (getD tape at 0)) l)) at (take (sizeOf (getD tape at 0)) l)) (drop (sizeOf (getD tape at 0)) l)
-          go l e h = rw e (run-record s at (getD tape at 0) (drop (suc at) tape) good kind (rw e at h))
+          go : (l : List ℕ) → l ≡ kind ∷ drop (suc at) tape → sizeOf kind ≤ length l
+              → reads (Between s at) l ≡ reads (behind s at (take (sizeOf kind) l)) (drop (sizeOf kind) l)
+          go l e h = rw e (run-record s at kind (drop (suc at) tape) good known (rw e at h))
 
 -- ---- a reading T that adds to the state of a reading S, and refuses as S does, is S seen through f
 
 module _ (S T : Type 0) (head : S → ℕ → ℕ) (step : S → ℕ → List ℕ → Out S) (head₂ : T → ℕ → ℕ) (step₂ : T → ℕ → List ℕ → Out T) (f : T → S)
-    (heads : (t : T) (b : ℕ) → head₂ t b ≡ head (f t) b) (steps : (t : T) (at : ℕ) (r : List ℕ) → mapOut f (step₂ t at r) ≡ step (f t) at r) where
+    (heads : (t : T) (b : ℕ) → head₂ t b ≡ head (f t) b)
+    (steps : (t : T) (at : ℕ) (r : List ℕ) → mapOut f (step₂ t at r) ≡ step (f t) at r) where
   map-land : (o : Out T) (at : ℕ) (r : List ℕ) → mapWalk f (land o at r) ≡ land (mapOut f o) at r
   map-land (Go t) at r = refl
   map-land (Stop t) at r = refl

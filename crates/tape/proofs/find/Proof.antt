@@ -36,7 +36,8 @@ returns-4 c =
     let known = c .before in
     let inside = known .before .before .before .if1 .left in
     let is = known .before .size .ensures in
-    sym (ap (mapped length) (records.record-whole _ _ _ inside is (known .if2 .left) (c .if3 .left)) ∙ ap Fine (records.whole-length _ _ _ inside is (c .if3 .left)))
+    let whole = records.record-whole _ _ _ inside is (known .if2 .left) (c .if3 .left) in
+    sym (ap (mapped length) whole ∙ ap Fine (records.whole-length _ _ _ inside is (c .if3 .left)))
 
 pub find-spec : {M : Type 1} → statement M
 find-spec = tie.close (tie.spec returns shared-slice-read-size size-requires returns-2 sub-if3 returns-3 returns-4)

@@ -13,7 +13,9 @@ use Rattle.tape.proofs.record.Statement.{statement}
 use Rattle.tape.proofs.record.Tie as tie
 
 -- what `find` told where a whole record stands
-told : (c : tie.After-known-told) → Fine (c .before .n .given .0 .0) ≡ mapped length (recordAt (now (c .before .before .before .before .before .args .tape)) (c .before .before .before .before .before .args .at))
+told : (c : tie.After-known-told)
+    → let args = c .before .before .before .before .before .args in
+    Fine (c .before .n .given .0 .0) ≡ mapped length (recordAt (now (args .tape)) (args .at))
 told c = sym (ap saysFound (c .before .n .given .1)) ∙ c .before .before .before .find .ensures
 
 find-requires : tie.Need-find-requires
