@@ -37,7 +37,8 @@ module _ (tape : List ℕ) where
   pub onward-later : (j k at : ℕ) → j ≤ k → onward tape j at ≤ onward tape k at
   onward-later j k at h =
       let e : k - j + j ≡ k = omega arith in
-      subst (λ (i : ℕ). onward tape j at ≤ i) (onward-onward (k - j) j at ∙ ap (λ (i : ℕ). onward tape i at) e) (onward-ahead (k - j) (onward tape j at))
+      let same = onward-onward (k - j) j at ∙ ap (λ (i : ℕ). onward tape i at) e in
+      subst (λ (i : ℕ). onward tape j at ≤ i) same (onward-ahead (k - j) (onward tape j at))
 
   -- the record that is passed over
   pub onward-one : (k at : ℕ) → onward tape (suc k) at ≡ onward tape k at + length (bytesAt tape (onward tape k at))
@@ -46,12 +47,11 @@ module _ (tape : List ℕ) where
 
   inner-next : (at k : ℕ) {b next : ℕ} → innerAt tape at k ≡ some (b, next) → next ≡ onward tape 1 at
   unfolding innerAt onward
-  inner-next at k {b} {next} e = go (eqb (getD (bytesAt tape at) 0 0) k) e
+  inner-next at k {b} {next} e = go (eqb (getD (bytesAt tape at) 0 0) k) (getD (bytesAt tape at) 1 0) (at + length (bytesAt tape at)) e
     where
-      go : (t : Bool) → _≡_ {A = Option (ℕ × ℕ)} (pick t (some (getD (bytesAt tape at) 1 0, at + length (bytesAt tape at))) none) (some (b, next))
-          → next ≡ at + length (bytesAt tape at)
-      go true e = sym (ap end e)
-      go false e = never (cc)
+      go : (t : Bool) (a i : ℕ) → _≡_ {A = Option (ℕ × ℕ)} (pick t (some (a, i)) none) (some (b, next)) → next ≡ i
+      go true a i e = sym (ap end e)
+      go false a i e = never (cc)
 
   -- ---- where an expression ends
 
@@ -67,26 +67,28 @@ module _ (tape : List ℕ) where
 
     leaf-ends : (at : ℕ) → Ends at (leaf tape numbers place at .0)
     unfolding leaf onward
-    leaf-ends at = go (eqb (getD (bytesAt tape at) 0 0) number) (eqb (getD (bytesAt tape at) 0 0) currentPlace) (isName (getD (bytesAt tape at) 0 0)) _ _ _
+    leaf-ends at =
+        let k = getD (bytesAt tape at) 0 0 in
+        go (eqb k number) (eqb k currentPlace) (isName k) (at + length (bytesAt tape at)) refl _ _ _
       where
-        go : (p q r : Bool) (x y z : Value)
-            → Ends at (pick {A = Meaning} p (at + length (bytesAt tape at), x) (pick q (at + length (bytesAt tape at), y) (pick r (at + length (bytesAt tape at), z) (at, Refuses badRecord at))) .0)
-        go true q r x y z = (1, refl)
-        go false true r x y z = (1, refl)
-        go false false true x y z = (1, refl)
-        go false false false x y z = (0, refl)
+        go : (p q r : Bool) (i : ℕ) → i ≡ onward tape 1 at → (x y z : Value)
+            → Ends at (pick {A = Meaning} p (i, x) (pick q (i, y) (pick r (i, z) (at, Refuses badRecord at))) .0)
+        go true q r i e x y z = (1, e)
+        go false true r i e x y z = (1, e)
+        go false false true i e x y z = (1, e)
+        go false false false i e x y z = (0, refl)
 
     expression-ends : (d at : ℕ) → Ends at (expression tape numbers place d at .0)
     unfolding expression onward
     expression-ends zero at = (0, refl)
-    expression-ends (suc d) at = go (innerAt tape at binary) refl (innerAt tape at flags) refl (expression-ends d)
+    expression-ends (suc d) at = go (innerAt tape at binary) refl (innerAt tape at flags) refl (expression tape numbers place d) (expression-ends d)
       where
         go : (b : Option (ℕ × ℕ)) → innerAt tape at binary ≡ b → (f : Option (ℕ × ℕ)) → innerAt tape at flags ≡ f
-            → ((i : ℕ) → Ends i (expression tape numbers place d i .0))
-            → Ends at (expressionBy tape numbers place b (expression tape numbers place d) (factorBy tape numbers place f (expression tape numbers place d) at) at .0)
-        go (some (op, next)) p f q e = ends-by at (inner-next at binary p) (ends-then next (e next) (e (expression tape numbers place d next .0)))
-        go none p (some (b, next)) q e = ends-by at (inner-next at flags q) (e next)
-        go none p none q e = leaf-ends at
+            → (e : ℕ → Meaning) → ((i : ℕ) → Ends i (e i .0))
+            → Ends at (expressionBy tape numbers place b e (factorBy tape numbers place f e at) at .0)
+        go (some (op, next)) p f q e ends = ends-by at (inner-next at binary p) (ends-then next (ends next) (ends (e next .0)))
+        go none p (some (b, next)) q e ends = ends-by at (inner-next at flags q) (ends next)
+        go none p none q e ends = leaf-ends at
 
   -- ---- two ways to number the names agree, if they do at each of its records
 
@@ -100,15 +102,17 @@ module _ (tape : List ℕ) where
 
     leaf-agrees : (at : ℕ) → Agree at → leaf tape f place at ≡ leaf tape g place at
     unfolding leaf onward NameAt
-    leaf-agrees at a = go (eqb (getD (bytesAt tape at) 0 0) number) (eqb (getD (bytesAt tape at) 0 0) currentPlace) (isName (getD (bytesAt tape at) 0 0)) (a 0) _ _
+    leaf-agrees at a =
+        let r = bytesAt tape at in
+        let k = getD r 0 0 in
+        go (eqb k number) (eqb k currentPlace) (isName k) (a 0) (at + length r) (getD r 1 0) _ _ _
       where
-        go : (p q r : Bool) → (r ≡ true → f at ≡ g at) → (x y : Meaning)
-            → pick {A = Meaning} p x (pick q y (pick r (at + length (bytesAt tape at), named (getD (bytesAt tape at) 1 0) at (f at)) (at, Refuses badRecord at)))
-            ≡ pick p x (pick q y (pick r (at + length (bytesAt tape at), named (getD (bytesAt tape at) 1 0) at (g at)) (at, Refuses badRecord at)))
-        go true q r e x y = refl
-        go false true r e x y = refl
-        go false false true e x y = rw (e refl)
-        go false false false e x y = refl
+        go : (p q r : Bool) → (r ≡ true → f at ≡ g at) → (i m : ℕ) (x y z : Meaning)
+            → pick {A = Meaning} p x (pick q y (pick r (i, named m at (f at)) z)) ≡ pick p x (pick q y (pick r (i, named m at (g at)) z))
+        go true q r e i m x y z = refl
+        go false true r e i m x y z = refl
+        go false false true e i m x y z = rw (e refl)
+        go false false false e i m x y z = refl
 
     pub expression-agrees : (d at : ℕ) → Agree at → expression tape f place d at ≡ expression tape g place d at
     unfolding expression

@@ -38,6 +38,10 @@ use Rattle.evaluator.proofs.Values.{back}
 
 -- ---- by the nodes that are noted
 
+-- the number of what is noted of the name at an offset
+abbrev foundBy : List ℕ → List ℕ → ℕ → ℕ → List Bool → List ℤ → ℕ → Option ℤ
+foundBy bytes links edges scope known number at = byNode known number (noted (nodeOf links edges scope (bytesAt bytes at)))
+
 pub value-noted : (bytes links nodes : List ℕ) (edges scope : ℕ) (known : List Bool) (number : List ℤ) {place : ℤ} → SFits w64 place
     → Resolved bytes links edges scope nodes → {m : Meaning} → m ≡ expressionAt bytes nodes known number (back place) 0
     → m .1 ≡ valueFrom bytes links edges known number scope place
@@ -46,7 +50,7 @@ value-noted bytes links nodes edges scope known number {place} f resolved pm =
     ap (λ (m : Meaning). m .1)
     (pm
     ∙ ap (λ (z : ℤ). expressionAt bytes nodes known number z 0) (toZ-ofZ f)
-    ∙ expression-agrees bytes (fromNodes nodes known number) (λ at. byNode known number (noted (nodeOf links edges scope (bytesAt bytes at)))) place 64 0
+    ∙ expression-agrees bytes (fromNodes nodes known number) (foundBy bytes links edges scope known number) place 64 0
     (λ k name. ap (byNode known number) (resolved k name)))
 
 pub value-handed : (bytes links : List ℕ) (edges scope : ℕ) (known : List Bool) (number : List ℤ) {place : ℤ} → SFits w64 place → {v : Value}
@@ -79,7 +83,7 @@ module _ (t : SymbolTable) (scope : ℕ) (h : isNode t scope ≡ true) (bytes : 
   number-found none f = refl
   number-found (some n) f = rw (lt-ltb n 1024 (f n refl), add-one n, lt-ltb n 1024 (f n refl))
 
-  pub names-agree : (at : ℕ) → byNode (t .known) (t .number) (noted (nodeOf (t .links) (t .edges) scope (bytesAt bytes at))) ≡ fromScope t scope bytes at
+  names-agree : (at : ℕ) → foundBy bytes (t .links) (t .edges) scope (t .known) (t .number) at ≡ fromScope t scope bytes at
   unfolding fromScope
   names-agree at =
       ap (λ (a : Answer (Option ℕ)). byNode (t .known) (t .number) (noted a)) (node-found at)
@@ -92,7 +96,7 @@ module _ (t : SymbolTable) (scope : ℕ) (h : isNode t scope ≡ true) (bytes : 
   value-found {place} f =
       ap (λ (z : ℤ). valueFrom bytes (t .links) (t .edges) (t .known) (t .number) scope z) (toZ-ofZ f)
       ∙ ap (λ (m : Meaning). m .1)
-      (expression-agrees bytes (λ at. byNode (t .known) (t .number) (noted (nodeOf (t .links) (t .edges) scope (bytesAt bytes at)))) (fromScope t scope bytes) place 64 0
+      (expression-agrees bytes (foundBy bytes (t .links) (t .edges) scope (t .known) (t .number)) (fromScope t scope bytes) place 64 0
       (λ k name. names-agree (onward bytes k 0)))
 
 -- ---- the call
@@ -101,7 +105,8 @@ pub form-short : (bytes : List ℕ) → Fine tt ≡ expressionForm bytes → len
 unfolding formOf
 form-short bytes e = go (ltb maxTape (length bytes)) refl _ e
   where
-    go : (b : Bool) → ltb maxTape (length bytes) ≡ b → (a : AnswerAt (Unit {0})) → Fine tt ≡ pick b (Fault argument 0) a → length bytes ≤ maxTape
+    go : (b : Bool) → ltb maxTape (length bytes) ≡ b → (a : AnswerAt (Unit {0})) → Fine tt ≡ pick b (Fault argument 0) a
+        → length bytes ≤ maxTape
     go true p a e = never (cc)
     go false p a e = ltb-false _ _ p
 
@@ -115,7 +120,8 @@ module _ (bytes : List ℕ) (t : SymbolTable) (scope : ℕ) (place : ℤ) where
     unfolding evaluateOf
     evaluate-form e = rw (h, ← e)
 
-    pub evaluate-value : Fine tt ≡ expressionForm bytes → SFits w64 place → {v : Value} → v ≡ valueFrom bytes (t .links) (t .edges) (t .known) (t .number) scope (back place)
+    pub evaluate-value : Fine tt ≡ expressionForm bytes → SFits w64 place
+        → {v : Value} → v ≡ valueFrom bytes (t .links) (t .edges) (t .known) (t .number) scope (back place)
         → {a : AnswerAt ℤ} → a ≡ answered v → a ≡ evaluateOf bytes t scope place
     unfolding evaluateOf
     evaluate-value e f pv pa = pa ∙ ap answered (pv ∙ value-found t scope h bytes f) ∙ sym (rw (h, ← e))

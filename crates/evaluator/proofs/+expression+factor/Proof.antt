@@ -115,7 +115,8 @@ expression-returns-2 t c =
     let deep = told .before in
     let at-entry = deep .before .before .before in
     let inner = sym (ap saysInner (binary .byte .given .1)) ∙ told .inner-at .ensures in
-    meanings.expression-binary _ _ _ _ _ (deep .if1 .left) (at-entry .fits .place) inner (left .expression .ensures) (right .expression2 .ensures) (c .both .ensures)
+    meanings.expression-binary _ _ _ _ _ (deep .if1 .left) (at-entry .fits .place) inner
+    (left .expression .ensures) (right .expression2 .ensures) (c .both .ensures)
 
 expression-returns-3 : (t : ℕ) → expression-lts.Need-returns-3 (in-expression t) (expression-at t) expression.Post
 expression-returns-3 t c =
