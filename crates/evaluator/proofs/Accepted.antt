@@ -4,93 +4,46 @@ use mathlib.Core.Bool.{Bool, true, false, _&&_, _||_}
 use mathlib.Core.List.{List, [], _∷_, _++_}
 use mathlib.Core.Option.{Option, none, some}
 use mathlib.Core.Path.{_≡_, refl, sym, ap, _∙_}
-use Prim.Native.Nat.{ℕ, zero, suc, _+_, _≤_, _<_, _^_}
+use Prim.Native.Nat.{ℕ, zero, suc, _+_, _≤_, _<_}
 use native.Mathlib.Decide.{decLt}
 use native.Mathlib.Omega.{arith}
-use lib.Dec.{eqb, leb, ltb}
-use lib.IntN.{ℤ, negℤ, natAbs, _+ℤ_, _-ℤ_, _*ℤ_}
-use lib.ListN.{length, getD, drop, replicate, drop-of-length-le}
-use lib.Seq.{getD-take, getD-drop}
-use lib.Signed.{mag, quotZ, remZ}
-use borrow.Author.Tests.{ne-eqb, lt-ltb, lt-leb, eqb-true, leb-true, ltb-true}
+use lib.Dec.{eqb, leb}
+use lib.IntN.{ℤ, negℤ}
+use lib.ListN.{length, getD, replicate}
+use borrow.Author.Tests.{ne-eqb, lt-leb, eqb-true, leb-true}
 use mir.Syntax.{w64}
 use mir.Val.{toZ}
 use Rattle.refusals.proofs.Never.{never}
-use Rattle.refusals.specs.Answer.{Answer, Done, Refused, pick, andThen}
+use Rattle.refusals.specs.Answer.{Answer, pick}
 use Rattle.refusals.specs.AnswerAt as A
 use Rattle.refusals.specs.AnswerAt.{AnswerAt, Fine, Fault}
-use Rattle.refusals.specs.Table.{argument, badRecord, tooDeep, arithmetic}
-use Rattle.int64.specs.Num.{fit, notOf, counts, shiftedBy, halvedBy, operators, operated, applied}
-use Rattle.int64.specs.Num.{Operator, Add, Sub, Mul, Div, Mod, Shl, Shr, Xor, Eq, Ne, Gt, GtEq, Lt, LtEq, And, Or}
+use Rattle.refusals.specs.Table.{argument, badRecord, tooDeep}
+use Rattle.int64.specs.Num.{notOf}
+use Rattle.int64.proofs.Refusing.{Arithmetic, done, out, either, fit-arithmetic, applied-arithmetic}
 use Rattle.little.specs.Little.{numberAt}
 use Rattle.symbols.specs.declared.SymbolTable.{SymbolTable}
 use Rattle.symbols.specs.Symbols.{isNode}
 use Rattle.tape.specs.Kinds.{number, currentPlace, flags, binary, instruction, openScope, closeScope, constant, setPlace, byte, word}
 use Rattle.tape.specs.Kinds.{Row, table, lookup, sizeOf, isExpression, isName}
 use Rattle.tape.specs.Record.{bytesAt}
-use Rattle.tape.specs.Walk.{Out, Walk, Between, land}
-use Rattle.tape.proofs.Records.{no-expression, an-expression, record-some}
-use Rattle.form.specs.Form.{Pending, pending, begin, maxTape, maxDepth, expressionFault, outsideFault, headFault, headOf, readFrom}
-use Rattle.form.specs.Form.{rangeFault, bodyFault, faultOf, hasExpression, followed, scopesAfter, after, closed, formOf, expressionForm}
-use Rattle.form.proofs.Faults.{body-binary, step-no, step-go}
-use Rattle.form.proofs.Reading.{head-shallow, read-bad, read-head, read-short, read-within, read-record}
+use Rattle.tape.specs.Walk.{Walk}
+use Rattle.tape.proofs.Records.{expression-known, expression-below, record-end, record-kind}
+use Rattle.form.specs.Form.{Pending, pending, maxDepth, expressionFault, outsideFault, headFault}
+use Rattle.form.specs.Form.{rangeFault, bodyFault, faultOf, hasExpression, followed, scopesAfter, after, expressionForm}
+use Rattle.form.proofs.Faults.{body-binary}
+use Rattle.form.proofs.Reading.{head-shallow, read-head}
+use Rattle.form.proofs.Sound.{readAt, Sound, form-sound, also-fine, sound-inside, sound-head, sound-whole, sound-fault, sound-go}
 use Rattle.evaluator.specs.Expression.{Value, Number, Unresolved, Refuses, Meaning, valued, flagged, changed, joined, named}
 use Rattle.evaluator.specs.Expression.{innerAt, leaf, expression}
 use Rattle.evaluator.specs.Evaluate.{fromScope, answered, evaluateOf}
-use Rattle.evaluator.specs.Accepted.{Computed, Complete, readAt, Sound, Passed}
+use Rattle.evaluator.specs.Accepted.{Computed, Complete}
 use Rattle.evaluator.specs.Accepted.{Answers, ByArgument, ByForm, ByNumber, ByArithmetic, ByName}
 
--- ---- arithmetic refuses with its own number only
-
-data Arithmetic : Answer ℤ → Type 0 where
-  done : {z : ℤ} → Arithmetic (Done z)
-  out : Arithmetic (Refused arithmetic)
-
-either : (t : Bool) {a b : Answer ℤ} → Arithmetic a → Arithmetic b → Arithmetic (pick t a b)
-either true p q = p
-either false p q = q
-
-then-done : (z : ℤ) {a : Answer ℤ} → Arithmetic a → Arithmetic (andThen a (λ q. Done z))
-then-done z done = done
-then-done z out = out
-
-fit-arithmetic : (z : ℤ) → Arithmetic (fit z)
-fit-arithmetic z = either (ltb (mag z) (2 ^ 63)) done out
-
-shifted-arithmetic : (t : Bool) (a : ℤ) (n : ℕ) → Arithmetic (shiftedBy t a n)
-shifted-arithmetic true a n = done
-shifted-arithmetic false a n = out
-
-halved-arithmetic : (t : Bool) (a : ℤ) (n : ℕ) → Arithmetic (halvedBy t a n)
-halved-arithmetic true a n = done
-halved-arithmetic false a n = out
-
-operated-arithmetic : (op : Operator) (a b : ℤ) → Arithmetic (operated op a b)
-operated-arithmetic Add a b = fit-arithmetic (a +ℤ b)
-operated-arithmetic Sub a b = fit-arithmetic (a -ℤ b)
-operated-arithmetic Mul a b = fit-arithmetic (a *ℤ b)
-operated-arithmetic Div a b = either (eqb (natAbs b) 0) done (fit-arithmetic (quotZ a b))
-operated-arithmetic Mod a b = either (eqb (natAbs b) 0) done (then-done (remZ a b) (fit-arithmetic (quotZ a b)))
-operated-arithmetic Shl a b = shifted-arithmetic (counts b) a (natAbs b)
-operated-arithmetic Shr a b = halved-arithmetic (counts b) a (natAbs b)
-operated-arithmetic Xor a b = done
-operated-arithmetic Eq a b = done
-operated-arithmetic Ne a b = done
-operated-arithmetic Gt a b = done
-operated-arithmetic GtEq a b = done
-operated-arithmetic Lt a b = done
-operated-arithmetic LtEq a b = done
-operated-arithmetic And a b = done
-operated-arithmetic Or a b = done
-
-applied-arithmetic : (op : ℕ) (a b : ℤ) → op ≤ 15 → Arithmetic (applied op a b)
-applied-arithmetic op a b h = rw (lt-ltb op 16 (omega arith)) (operated-arithmetic (getD operators op Add) a b)
+-- ---- values, at a record that lies within len bytes
 
 flagged-arithmetic : (f : ℕ) (z : ℤ) → Arithmetic (flagged f z)
 unfolding flagged
 flagged-arithmetic f z = either (eqb f 1) done (either (eqb f 2) (fit-arithmetic (negℤ z)) (fit-arithmetic (negℤ (notOf z))))
-
--- ---- values, at a record that lies within len bytes
 
 module _ (len at : ℕ) (inside : at < len) where
   valued-computed : {a : Answer ℤ} → Arithmetic a → Computed len (valued at a)
@@ -138,16 +91,10 @@ abbrev isLeaf : ℕ → Bool
 isLeaf k = eqb k number || eqb k currentPlace || isName k
 
 module _ (k : ℕ) (is : isExpression k ≡ true) where
-  expression-known : sizeOf k ≡ 0 → ⊥
-  expression-known z = never (let e = no-expression k (sizeOf k) refl z in cc)
-
-  expression-below : k < instruction
-  expression-below = ltb-true k instruction (an-expression k (sizeOf k) refl expression-known ∙ is)
-
   scopes-stay : (n : ℕ) → scopesAfter n k ≡ n
   unfolding scopesAfter
   scopes-stay n =
-      let low = expression-below in
+      let low = expression-below k is in
       rw (ne-eqb k openScope (λ e. omega arith), ne-eqb k closeScope (λ e. omega arith))
 
   followed-binary : eqb k binary ≡ true → (mode : ℕ) → followed k mode ≡ 2
@@ -163,7 +110,7 @@ module _ (k : ℕ) (is : isExpression k ≡ true) where
       followed-leaf : (mode : ℕ) → followed k mode ≡ 0
       unfolding followed hasExpression
       followed-leaf mode =
-          let low = expression-below in
+          let low = expression-below k is in
           rw (
             b,
             f,
@@ -178,8 +125,8 @@ module _ (k : ℕ) (is : isExpression k ≡ true) where
       unfolding sizeOf isName
       is-leaf =
           let sort : ℕ → Bool = λ i. leb instruction i || eqb i binary || eqb i flags || isLeaf i in
-          let e : sort k ≡ true = each-kind sort table k refl expression-known in
-          rw (lt-leb instruction k expression-below, b, f) at e
+          let e : sort k ≡ true = each-kind sort table k refl (expression-known k is) in
+          rw (lt-leb instruction k (expression-below k is), b, f) at e
 
 head-expression : (alone : Bool) (d k : ℕ) → 0 < d → headFault alone d k ≡ 0 → isExpression k ≡ true
 unfolding headFault expressionFault
@@ -215,12 +162,12 @@ operator-most n r z e =
 
 -- ---- a record of the bytes
 
-is-zero : (x : ℕ) → ((x ≡ 0 → ⊥) → ⊥) → x ≡ 0
-is-zero zero h = refl
-is-zero (suc x) h = absurd (h (λ e. omega arith))
-
-also-fine : (alone : Bool) {w v : Walk Pending} → w ≡ v → closed alone w ≡ Fine tt → closed alone v ≡ Fine tt
-also-fine alone e fine = sym (ap (closed alone) e) ∙ fine
+-- a meaning at an offset, where an expression of depth d is to come and then those of ds, n scopes being open: what the form reads
+-- on from where the expression ends is what it reads from the offset on, and no more than ds is to come there
+pub record Passed (alone : Bool) (bytes : List ℕ) (n d : ℕ) (ds : List ℕ) (at : ℕ) (m : Meaning) : Type 0 where
+  pub reading : readAt alone bytes (pending n (d ∷ ds)) at ≡ readAt alone bytes (pending n ds) (m .0)
+  pub within : m .0 ≤ length bytes
+  pub value : Computed (length bytes) (m .1)
 
 module _ (bytes : List ℕ) (at : ℕ) where
   abbrev here : List ℕ
@@ -235,14 +182,6 @@ module _ (bytes : List ℕ) (at : ℕ) where
 
   abbrev next : ℕ
   next = at + length here
-
-  kind-at : at < length bytes → (sizeOf (getD bytes at 0) ≡ 0 → ⊥) → (length here ≡ 0 → ⊥) → kind ≡ getD bytes at 0
-  kind-at inside known whole =
-      let z : at + 0 ≡ at = omega arith in
-      ap (λ (r : List ℕ). getD r 0 0) (record-some bytes at inside known whole .0)
-      ∙ getD-take (sizeOf (getD bytes at 0)) (drop at bytes) 0 0 (omega arith)
-      ∙ getD-drop at bytes 0 0
-      ∙ ap (λ (i : ℕ). getD bytes i 0) z
 
   -- a meaning that ends where it does
   abbrev Ends : Meaning → Type 0
@@ -268,65 +207,39 @@ module _ (bytes : List ℕ) (at : ℕ) where
     abbrev due : Pending
     due = pending n (d ∷ ds)
 
-    abbrev head : ℕ
-    head = headOf alone due (getD bytes at 0)
+    -- the bytes may not end here
+    more : (alone && eqb (length (d ∷ ds)) 0) ≡ false
+    more = go alone
+      where
+        go : (a : Bool) → (a && eqb (length (d ∷ ds)) 0) ≡ false
+        go true = ne-eqb (length (d ∷ ds)) 0 (λ z. omega arith)
+        go false = refl
 
-    abbrev fault : ℕ
-    fault = faultOf n here
-
-    -- the reading behind it, after what it did
-    abbrev landed : Out Pending → Walk Pending
-    landed o = readFrom alone (land o at here) (drop next bytes)
-
-    -- and where j expressions follow it
+    -- the reading behind it, where j expressions follow it
     abbrev behind : ℕ → Walk Pending
     behind j = readAt alone bytes (pending n (replicate j (d + 1) ++ ds)) next
 
     module _ (some-depth : 0 < d) (sound : Sound alone bytes due at) where
       stands : at < length bytes
-      unfolding readFrom
-      stands =
-          elim (decLt at (length bytes)) [
-            | yes h ↦ h
-            | no h ↦ let past : length bytes ≤ at = omega arith in go alone (rw (drop-of-length-le bytes past) at sound)
-          ]
-        where
-          go : (a : Bool) → closed a (Between due at) ≡ Fine tt → at < length bytes
-          go true fine = let no = rw (ne-eqb (length (d ∷ ds)) 0 (λ z. omega arith)) at fine in never (cc)
-          go false fine = never (cc)
-
-      -- its kind is in its place
-      placed : head ≡ 0
-      placed = is-zero head (λ z. let fine = also-fine alone (read-head alone bytes at due stands z) sound in never (cc))
+      stands = sound-inside alone bytes at due more sound
 
       shallow : d ≤ maxDepth
-      shallow = head-shallow alone d (getD bytes at 0) placed
-
-      whole : length here ≡ 0 → ⊥
-      whole z = let fine = also-fine alone (read-short alone bytes at due stands placed z) sound in never (cc)
+      shallow = head-shallow alone d (getD bytes at 0) (sound-head alone bytes at due more sound)
 
       ends-within : next ≤ length bytes
-      ends-within = read-within alone bytes at due stands placed whole
+      ends-within = record-end bytes at (length bytes) (omega (arith, stands)) (omega arith)
 
       inner : isExpression kind ≡ true
       inner =
-          let is = head-expression alone d (getD bytes at 0) some-depth placed in
-          ap isExpression (kind-at stands (expression-known (getD bytes at 0) is) whole) ∙ is
-
-      faultless : fault ≡ 0
-      faultless =
-          is-zero fault
-          (λ z. let no = ap landed (sym (step-no due here fault refl z)) in
-          let bad = read-record alone bytes at due stands placed whole ∙ no ∙ read-bad alone bytes at fault (drop next bytes) in
-          let fine = also-fine alone bad sound in
-          never (cc))
+          let is = head-expression alone d (getD bytes at 0) some-depth (sound-head alone bytes at due more sound) in
+          let same = record-kind bytes at stands (expression-known (getD bytes at 0) is) (sound-whole alone bytes at due more sound) in
+          ap isExpression same ∙ is
 
       read-on : {j : ℕ} → followed kind (getD here 2 0) ≡ j → readAt alone bytes due at ≡ behind j
       unfolding after
       read-on e =
           let low = expression-below kind inner in
-          let go = step-go due here fault refl faultless kind refl (λ e. omega arith) (after due here) refl in
-          read-record alone bytes at due stands placed whole ∙ ap landed (sym go) ∙ rw (scopes-stay kind inner n, e)
+          sound-go alone bytes at due more sound (λ e. omega arith) ∙ rw (scopes-stay kind inner n, e)
 
       -- ---- the expression that begins with it, by its kind
 
@@ -372,7 +285,7 @@ module _ (bytes : List ℕ) (at : ℕ) where
               let r = means (l .0) in
               let left = deeper ((d + 1) ∷ ds) next (also-fine alone on sound) in
               let right = deeper ds (l .0) (also-fine alone (on ∙ left .reading) sound) in
-              let most = operator-most n here faultless (eqb-true _ binary b) in
+              let most = operator-most n here (sound-fault alone bytes at due more sound) (eqb-true _ binary b) in
               rw b
               (record {
                 reading = on ∙ left .reading ∙ right .reading;
@@ -399,14 +312,6 @@ module _ (alone : Bool) (bytes : List ℕ) (numbers : ℕ → Option ℤ) (place
 
 -- ---- an expression alone
 
-form-sound : (bytes : List ℕ) → expressionForm bytes ≡ Fine tt → Sound true bytes (begin true) 0
-unfolding formOf
-form-sound bytes e = go (ltb maxTape (length bytes)) e
-  where
-    go : (t : Bool) {x : AnswerAt (Unit {0})} → pick t (Fault argument 0) x ≡ Fine tt → x ≡ Fine tt
-    go true e = never (cc)
-    go false e = e
-
 -- behind it nothing stands
 sound-all : (bytes : List ℕ) (at : ℕ) → at ≤ length bytes → Sound true bytes (pending 0 []) at → at ≡ length bytes
 unfolding headFault outsideFault
@@ -419,7 +324,7 @@ sound-all bytes at within sound =
 pub accepted : (bytes : List ℕ) (numbers : ℕ → Option ℤ) (place : ℤ) → expressionForm bytes ≡ Fine tt
     → Complete bytes (expression bytes numbers place maxDepth 0)
 accepted bytes numbers place fine =
-    let sound = form-sound bytes fine in
+    let sound = form-sound true bytes fine in
     let p = passed true bytes numbers place 0 maxDepth 1 [] 0 (omega arith) (omega arith) sound in
     record {
       ends = sound-all bytes (expression bytes numbers place maxDepth 0 .0) (p .within) (also-fine true (p .reading) sound);

@@ -2,6 +2,7 @@
 pub mod Stack
 pub mod Faults
 pub mod Reading
+pub mod Sound
 pub mod Loop
 pub mod Statements
 pub mod Unique

@@ -14,6 +14,7 @@ use Rattle.refusals.proofs.Never.{never}
 use Rattle.tape.specs.Kinds.{openScope, closeScope, end}
 use Rattle.tape.specs.Record.{bytesAt}
 use Rattle.tape.specs.Walk.{Out, Go, Stop, No, Between, Ended, Bad, land}
+use Rattle.tape.proofs.Records.{record-end}
 use Rattle.form.specs.declared.State.{State}
 use Rattle.form.specs.declared.Next.{Next}
 use Rattle.form.specs.declared.Next.the-variants as next
@@ -21,7 +22,7 @@ use Rattle.form.specs.declared.Stepped.{Stepped}
 use Rattle.form.specs.Form.{Pending, top, begin, maxTape, maxDepth, headFault, faultOf, followed, scopesAfter, after, headOf, stepOf, readFrom, closed, formOf}
 use Rattle.form.specs.Steps.{view, Fit, Room, Ready, outBy, saysStepped}
 use Rattle.form.proofs.Faults.{followed-few}
-use Rattle.form.proofs.Reading.{head-shallow, read-bad, read-behind, read-head, read-short, read-within, read-record}
+use Rattle.form.proofs.Reading.{head-shallow, read-bad, read-behind, read-head, read-short, read-record}
 
 -- ---- room for what is pushed
 
@@ -163,7 +164,7 @@ module _ {alone : Bool} {bytes : List ℕ} {s : State} {at : ℕ} {r : List ℕ}
   whole e = t .some (ap length (t .is) ∙ e)
 
   pub within : at + length r ≤ length bytes
-  within = rw (t .is) (read-within alone bytes at (view s) (t .turn .inside) (t .turn .good) whole)
+  within = rw (t .is) (record-end bytes at (length bytes) (omega (arith, t .turn .inside)) (omega arith))
 
   landed : (n : Next) → o .next ≡ n
       → readFrom alone (Between (view s) at) (drop at bytes)

@@ -2,11 +2,11 @@
 -- record. Assumes nothing.
 use mathlib.Core.Bool.{Bool, true, false}
 use mathlib.Core.List.{List}
-use mathlib.Core.Path.{_≡_, refl, ap}
+use mathlib.Core.Path.{_≡_, refl}
 use Prim.Native.Nat.{ℕ, suc, _+_, _≤_, _<_}
 use native.Mathlib.Omega.{arith}
 use lib.Dec.{eqb, ltb, leb}
-use lib.ListN.{length, getD, drop, length-drop, length-take, drop-of-length-le}
+use lib.ListN.{length, getD, drop, drop-of-length-le}
 use lib.Seq.{drop-cons}
 use borrow.Author.Tests.{eqb-true, leb-true, ltb-true, ltb-false}
 use Rattle.refusals.specs.Answer.{pick}
@@ -14,7 +14,7 @@ use Rattle.refusals.specs.Table.{badRecord, cutShort, tooDeep}
 use Rattle.tape.specs.Kinds.{sizeOf, isExpression}
 use Rattle.tape.specs.Record.{bytesAt}
 use Rattle.tape.specs.Walk.{Out, Between, Within, Ended, Bad, land}
-use Rattle.tape.proofs.Records.{no-expression, no-statement, record-some}
+use Rattle.tape.proofs.Records.{no-expression, no-statement}
 use Rattle.tape.proofs.Walks.{run-bad, walk-head, walk-short, walk-record}
 use Rattle.form.specs.Form.{Pending, top, maxDepth, expressionFault, outsideFault, headFault, headOf, stepOf, readFrom}
 
@@ -77,12 +77,6 @@ module _ (alone : Bool) (bytes : List ℕ) (at : ℕ) where
       pub read-short : length (bytesAt bytes at) ≡ 0 → readFrom alone (Between p at) (drop at bytes) ≡ Within p at (drop at bytes)
       unfolding readFrom
       read-short z = walk-short Pending (headOf alone) stepAt bytes at p inside good kind z
-
-      -- a whole one lies within
-      pub read-within : (length (bytesAt bytes at) ≡ 0 → ⊥) → at + length (bytesAt bytes at) ≤ length bytes
-      read-within z =
-          let w = record-some bytes at inside kind z in
-          omega (arith, ap length (w .0), length-take (sizeOf (getD bytes at 0)) (drop at bytes), length-drop at bytes)
 
       pub read-record : (length (bytesAt bytes at) ≡ 0 → ⊥)
           → readFrom alone (Between p at) (drop at bytes)

@@ -2,25 +2,25 @@
 -- over its statements. Assumes nothing.
 use mathlib.Core.Bool.{Bool, true, false}
 use mathlib.Core.List.{List, [], _∷_}
-use mathlib.Core.Path.{_≡_, refl, sym, ap, _∙_}
+use mathlib.Core.Path.{_≡_, refl, sym, _∙_}
 use Prim.Native.Nat.{ℕ, zero, suc, _+_, _-_, _≤_, _<_}
-use native.Mathlib.Decide.{decLt}
 use native.Mathlib.Omega.{arith}
 use lib.Dec.{eqb, ltb}
 use lib.ListN.{length, getD, drop, drop-of-length-le}
 use borrow.Author.Tests.{ne-eqb, eqb-true, eqb-false, ltb-false}
 use Rattle.refusals.specs.Answer.{Answer, Done, Refused, pick}
-use Rattle.refusals.specs.AnswerAt.{AnswerAt, Fine, Fault}
-use Rattle.refusals.specs.Table.{argument, cutShort}
+use Rattle.refusals.specs.AnswerAt.{Fine}
+use Rattle.refusals.specs.Table.{cutShort}
 use Rattle.refusals.proofs.Never.{never}
 use Rattle.tape.specs.Kinds.{end}
 use Rattle.tape.specs.Record.{bytesAt}
-use Rattle.tape.specs.Walk.{Out, Go, Stop, No, Walk, Between, Ended, Bad, land, run}
-use Rattle.tape.proofs.Records.{record-past}
+use Rattle.tape.specs.Walk.{Go, Stop, Walk, Between, Ended, Bad, land, run}
+use Rattle.tape.proofs.Records.{record-past, record-end}
 use Rattle.tape.proofs.Walks.{run-bad, walk-record}
-use Rattle.form.specs.Form.{Pending, top, begin, maxTape, headOf, faultOf, after, stepOf, readFrom, closed, tapeForm, formOf}
+use Rattle.form.specs.Form.{Pending, top, begin, after, closed, tapeForm}
 use Rattle.form.specs.Statements.{Statement, statementOf, isLast, isInner, statementsFrom, statementsAt, statements, overStatements, outOf, readStatement, walkedTo}
-use Rattle.form.proofs.Reading.{head-known, read-bad, read-behind, read-head, read-short, read-within, read-record}
+use Rattle.form.proofs.Reading.{head-known, read-behind}
+use Rattle.form.proofs.Sound.{Sound, form-sound, also-fine, sound-inside, sound-head, sound-whole, sound-stop, sound-go}
 
 -- ---- the statements from an offset on
 
@@ -82,12 +82,6 @@ module _ (tape : List ℕ) (at : ℕ) where
 
 -- ---- a sound tape, from an offset on, where p is pending
 
-abbrev Sound : List ℕ → ℕ → Pending → Type 0
-Sound tape at p = closed false (readFrom false (Between p at) (drop at tape)) ≡ Fine tt
-
-also-fine : {w v : Walk Pending} → w ≡ v → closed false w ≡ Fine tt → closed false v ≡ Fine tt
-also-fine e fine = sym (ap (closed false) e) ∙ fine
-
 module _ (tape : List ℕ) (at : ℕ) where
   abbrev here : List ℕ
   here = bytesAt tape at
@@ -95,59 +89,31 @@ module _ (tape : List ℕ) (at : ℕ) where
   abbrev next : ℕ
   next = at + length here
 
-  module _ (p : Pending) (sound : Sound tape at p) where
-    -- a record stands there
-    sound-inside : at < length tape
-    unfolding readFrom
-    sound-inside =
-        elim (decLt at (length tape)) [
-          | yes h ↦ h
-          | no h ↦ let past : length tape ≤ at = omega arith in let fine = rw (drop-of-length-le tape past) at sound in never (cc)
-        ]
-
-    -- its kind is in its place
-    sound-head : headOf false p (getD tape at 0) ≡ 0
-    sound-head = go (eqb (headOf false p (getD tape at 0)) 0) refl
-      where
-        go : (t : Bool) → eqb (headOf false p (getD tape at 0)) 0 ≡ t → headOf false p (getD tape at 0) ≡ 0
-        go true e = eqb-true _ 0 e
-        go false e = let fine = also-fine (read-head false tape at p sound-inside (eqb-false _ 0 e)) sound in never (cc)
-
-    -- it is whole
-    sound-whole : length here ≡ 0 → ⊥
-    sound-whole z = let fine = also-fine (read-short false tape at p sound-inside sound-head z) sound in never (cc)
-
-    -- it is not refused
-    abbrev kept : Out Pending
-    kept = pick (eqb (getD here 0 0) end) (Stop p) (Go (after p here))
-
-    sound-kept : closed false (readFrom false (land kept at here) (drop next tape)) ≡ Fine tt
-    unfolding stepOf
-    sound-kept =
-        go (eqb (faultOf (p .scopes) here) 0) (faultOf (p .scopes) here)
-        (also-fine (read-record false tape at p sound-inside sound-head sound-whole) sound)
-      where
-        go : (t : Bool) (n : ℕ) → closed false (readFrom false (land (pick t kept (No n)) at here) (drop next tape)) ≡ Fine tt
-            → closed false (readFrom false (land kept at here) (drop next tape)) ≡ Fine tt
-        go true n fine = fine
-        go false n fine = let false-too = also-fine (read-bad false tape at n (drop next tape)) fine in never (cc)
+  module _ (p : Pending) (sound : Sound false tape p at) where
+    abbrev whole : length here ≡ 0 → ⊥
+    whole = sound-whole false tape at p refl sound
 
     -- behind the end record nothing stands
     sound-end : eqb (getD here 0 0) end ≡ true → next ≡ length tape
-    sound-end e = go (ltb next (length tape)) refl (also-fine (read-behind false tape next p) (rw e at sound-kept))
+    sound-end e =
+        let stops = sound-stop false tape at p refl sound (eqb-true _ end e) in
+        go (ltb next (length tape)) refl (also-fine false (stops ∙ read-behind false tape next p) sound)
       where
+        within : next ≤ length tape
+        within = record-end tape at (length tape) (omega (arith, sound-inside false tape at p refl sound)) (omega arith)
+
         go : (t : Bool) → ltb next (length tape) ≡ t → closed false (pick t (Bad cutShort next) (Ended p next)) ≡ Fine tt
             → next ≡ length tape
         go true e fine = never (cc)
-        go false e fine = omega (arith, ltb-false next (length tape) e, read-within false tape at p sound-inside sound-head sound-whole)
+        go false e fine = omega (arith, ltb-false next (length tape) e, within)
 
     -- behind any other record the tape is sound
-    sound-on : eqb (getD here 0 0) end ≡ false → Sound tape next (after p here)
-    sound-on e = rw e at sound-kept
+    sound-on : eqb (getD here 0 0) end ≡ false → Sound false tape (after p here) next
+    sound-on e = also-fine false (sound-go false tape at p refl sound (eqb-false _ end e)) sound
 
     -- and only the end record is the last one
     sound-last : {t : Bool} → eqb (getD here 0 0) end ≡ t → isLast here ≡ t
-    sound-last e = rw (ne-eqb (length here) 0 sound-whole, e)
+    sound-last e = rw (ne-eqb (length here) 0 whole, e)
 
 -- ---- the reading of a sound tape is the walk over its statements
 
@@ -159,12 +125,12 @@ module _ (S : Type 0) (f : S → Statement → Answer S) (tape : List ℕ) where
   walked s at = walkedTo (length tape) (overStatements S f s (statementsAt tape at))
 
   -- over one record, if it is so behind it
-  walk-one : (s : S) (at : ℕ) (p : Pending) → Sound tape at p
+  walk-one : (s : S) (at : ℕ) (p : Pending) → Sound false tape p at
       → ((t : S) → eqb (getD (here tape at) 0 0) end ≡ false → reads (Between t (next tape at)) (next tape at) ≡ walked t (next tape at))
       → reads (Between s at) at ≡ walked s at
   walk-one s at p sound rest =
-      let kind = head-known false (top (p .depths)) (getD tape at 0) (sound-head tape at p sound) in
-      walk-record S (λ s k. 0) (readStatement S f) tape at s (sound-inside tape at p sound) refl kind (sound-whole tape at p sound)
+      let kind = head-known false (top (p .depths)) (getD tape at 0) (sound-head false tape at p refl sound) in
+      walk-record S (λ s k. 0) (readStatement S f) tape at s (sound-inside false tape at p refl sound) refl kind (sound-whole false tape at p refl sound)
       ∙ go (eqb (getD (here tape at) 0 0) end) refl (isInner (here tape at)) refl (f s (statementOf at (here tape at))) refl
     where
       go : (a : Bool) → eqb (getD (here tape at) 0 0) end ≡ a → (b : Bool) → isInner (here tape at) ≡ b
@@ -182,17 +148,12 @@ module _ (S : Type 0) (f : S → Statement → Answer S) (tape : List ℕ) where
           ∙ rw (statements-one tape at (sound-last tape at p sound more) inner, is)
 
   -- over at most n bytes
-  walk-all : (n : ℕ) (s : S) (at : ℕ) (p : Pending) → length tape ≤ at + n → Sound tape at p → reads (Between s at) at ≡ walked s at
-  walk-all zero s at p most sound = absurd (omega (arith, sound-inside tape at p sound))
+  walk-all : (n : ℕ) (s : S) (at : ℕ) (p : Pending) → length tape ≤ at + n → Sound false tape p at → reads (Between s at) at ≡ walked s at
+  walk-all zero s at p most sound = absurd (omega (arith, sound-inside false tape at p refl sound))
   walk-all (suc n) s at p most sound =
-      let on : length tape ≤ next tape at + n = omega (arith, sound-whole tape at p sound) in
+      let on : length tape ≤ next tape at + n = omega (arith, sound-whole false tape at p refl sound) in
       walk-one s at p sound (λ t more. walk-all n t (next tape at) (after p (here tape at)) on (sound-on tape at p sound more))
 
 pub walk-statements : (S : Type 0) (f : S → Statement → Answer S) (s : S) (tape : List ℕ) → tapeForm tape ≡ Fine tt
     → run S (λ s k. 0) (readStatement S f) (Between s 0) tape ≡ walkedTo (length tape) (overStatements S f s (statements tape))
-unfolding formOf
-walk-statements S f s tape sound = walk-all S f tape (length tape) s 0 (begin false) (omega arith) (go (ltb maxTape (length tape)) sound)
-  where
-    go : (t : Bool) {x : AnswerAt (Unit {0})} → pick t (Fault argument 0) x ≡ Fine tt → x ≡ Fine tt
-    go true e = never (cc)
-    go false e = e
+walk-statements S f s tape sound = walk-all S f tape (length tape) s 0 (begin false) (omega arith) (form-sound false tape sound)

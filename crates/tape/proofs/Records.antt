@@ -7,8 +7,8 @@ use native.Mathlib.Decide.{decLt}
 use native.Mathlib.Omega.{arith}
 use lib.Dec.{leb, ltb, eqb}
 use lib.ListN.{length, getD, take, drop, length-drop, drop-of-length-le}
-use lib.Seq.{drop-cons, length-take-le}
-use borrow.Author.Tests.{le-leb, lt-leb, ne-eqb, eq-eqb, leb-true, leb-false, eqb-true, eqb-false}
+use lib.Seq.{drop-cons, getD-drop, getD-take, length-take-le}
+use borrow.Author.Tests.{le-leb, lt-leb, ne-eqb, eq-eqb, leb-true, leb-false, ltb-true, eqb-true, eqb-false}
 use Rattle.refusals.proofs.Never.{never}
 use Rattle.refusals.specs.Answer.{pick}
 use Rattle.refusals.specs.AnswerAt.{AnswerAt, Fine, Fault, mapped, part}
@@ -36,6 +36,14 @@ module _ (k n : ℕ) (is : n ≡ sizeOf k) where
   pub a-statement : (n ≡ 0 → ⊥) → leb instruction k ≡ isStatement k
   unfolding isStatement
   a-statement z = simp (ne-eqb _ 0 (λ e. z (is ∙ e)))
+
+-- a kind of which expressions are made is one, and is below the others
+module _ (k : ℕ) (is : isExpression k ≡ true) where
+  pub expression-known : sizeOf k ≡ 0 → ⊥
+  expression-known z = never (let e = no-expression k (sizeOf k) refl z in cc)
+
+  pub expression-below : k < instruction
+  expression-below = ltb-true k instruction (an-expression k (sizeOf k) refl expression-known ∙ is)
 
 -- no record is longer than ten bytes
 abbrev AllBelow : List Row → Type 0
@@ -150,3 +158,13 @@ module _ (tape : List ℕ) (at : ℕ) where
     record-some =
         record-is (λ a. (length (part a) ≡ 0 → ⊥) → (part a ≡ first size) × (size ≤ left)) (λ p x. absurd (x refl)) (λ p x. absurd (x refl)) (λ some p x. absurd (x refl))
         (λ some p q e x. (refl, p))
+
+    -- and its first byte is the kind
+    pub record-kind : (length (bytesAt tape at) ≡ 0 → ⊥) → getD (bytesAt tape at) 0 0 ≡ getD tape at 0
+    record-kind z =
+        let whole = record-some z in
+        let first-byte : at + 0 ≡ at = omega arith in
+        ap (λ (r : List ℕ). getD r 0 0) (whole .0)
+        ∙ getD-take size (drop at tape) 0 0 (omega arith)
+        ∙ getD-drop at tape 0 0
+        ∙ ap (λ (i : ℕ). getD tape i 0) first-byte
