@@ -53,7 +53,8 @@ value-noted bytes links nodes edges scope known number {place} f resolved pm =
     ∙ expression-agrees bytes (fromNodes nodes known number) (foundBy bytes links edges scope known number) place 64 0
     (λ k name. ap (byNode known number) (resolved k name)))
 
-pub value-handed : (bytes links : List ℕ) (edges scope : ℕ) (known : List Bool) (number : List ℤ) {place : ℤ} → SFits w64 place → {v : Value}
+pub value-handed : (bytes links : List ℕ) (edges scope : ℕ) (known : List Bool) (number : List ℤ) {place : ℤ} → SFits w64 place
+    → {v : Value}
     → v ≡ valueFrom bytes links edges known number scope (back place) → v ≡ valueFrom bytes links edges known number scope place
 value-handed bytes links edges scope known number f pv = pv ∙ ap (valueFrom bytes links edges known number scope) (toZ-ofZ f)
 
@@ -72,7 +73,8 @@ answer-refused n at e = sym (ap (λ (x : Val.Value). answered (saysValue x)) e)
 
 module _ (t : SymbolTable) (scope : ℕ) (h : isNode t scope ≡ true) (bytes : List ℕ) where
   -- a name's path is no longer than a query takes
-  node-found : (at : ℕ) → nodeOf (t .links) (t .edges) scope (bytesAt bytes at) ≡ Done (queryOf (edgesOf t) scope (pathOf (bytesAt bytes at)))
+  node-found : (at : ℕ)
+      → nodeOf (t .links) (t .edges) scope (bytesAt bytes at) ≡ Done (queryOf (edgesOf t) scope (pathOf (bytesAt bytes at)))
   unfolding nodeOf queryEdges
   node-found at =
       let few : length (pathOf (bytesAt bytes at)) ≤ 4 = omega (arith, length-path (bytesAt bytes at), record-most bytes at) in

@@ -40,29 +40,37 @@ module _ (tape : List ℕ) (at k : ℕ) {r : List ℕ} (r-is : r ≡ bytesAt tap
   unfolding innerAt
   inner-is e pb = rw (eq-eqb _ k (sym (kind-is tape at r-is v-is) ∙ e), pb, r-is)
 
-module _ (tape : List ℕ) (numbers : ℕ → Option ℤ) (place : ℤ) (at : ℕ) {r : List ℕ} (r-is : r ≡ bytesAt tape at) {v : ℕ} (v-is : v ≡ getD r 0 0) where
-  pub leaf-number : v ≡ number → {z : ℤ} → SFits w64 z → z ≡ toZ w64 (numberAt 8 r 1) → {m : Meaning} → m ≡ (at + length r, Number (back z)) → m ≡ leaf tape numbers place at
+module _ (tape : List ℕ) (numbers : ℕ → Option ℤ) (place : ℤ) (at : ℕ) {r : List ℕ} (r-is : r ≡ bytesAt tape at)
+    {v : ℕ} (v-is : v ≡ getD r 0 0) where
+  pub leaf-number : v ≡ number → {z : ℤ} → SFits w64 z → z ≡ toZ w64 (numberAt 8 r 1) → {m : Meaning}
+      → m ≡ (at + length r, Number (back z)) → m ≡ leaf tape numbers place at
   unfolding leaf
   leaf-number e f pz pm = rw (eq-eqb _ number (sym (kind-is tape at r-is v-is) ∙ e)) (pm ∙ rw (toZ-ofZ f, pz, r-is))
 
   module _ (x : v ≡ number → ⊥) where
-    pub leaf-place : v ≡ currentPlace → SFits w64 place → {m : Meaning} → m ≡ (at + length r, Number (back place)) → m ≡ leaf tape numbers place at
+    pub leaf-place : v ≡ currentPlace → SFits w64 place → {m : Meaning} → m ≡ (at + length r, Number (back place))
+        → m ≡ leaf tape numbers place at
     unfolding leaf
-    leaf-place e f pm = rw (ne-eqb _ number (λ n. x (kind-is tape at r-is v-is ∙ n)), eq-eqb _ currentPlace (sym (kind-is tape at r-is v-is) ∙ e)) (pm ∙ rw (toZ-ofZ f, r-is))
+    leaf-place e f pm =
+        let k = kind-is tape at r-is v-is in
+        rw (ne-eqb _ number (λ n. x (k ∙ n)), eq-eqb _ currentPlace (sym k ∙ e)) (pm ∙ rw (toZ-ofZ f, r-is))
 
     module _ (y : v ≡ currentPlace → ⊥) where
-      pub leaf-name : isName v ≡ true → {b : ℕ} → b ≡ getD r 1 0 → {w : Value} {d : Option ℤ} → d ≡ numbers at → w ≡ named b at d → {m : Meaning} → m ≡ (at + length r, w)
+      pub leaf-name : isName v ≡ true → {b : ℕ} → b ≡ getD r 1 0 → {w : Value} {d : Option ℤ} → d ≡ numbers at → w ≡ named b at d
+          → {m : Meaning} → m ≡ (at + length r, w)
           → m ≡ leaf tape numbers place at
       unfolding leaf
       leaf-name e pb pd pw pm =
-          let n : isName (getD (bytesAt tape at) 0 0) ≡ true = rw (← kind-is tape at r-is v-is) e in
-          rw (ne-eqb _ number (λ n. x (kind-is tape at r-is v-is ∙ n)), ne-eqb _ currentPlace (λ n. y (kind-is tape at r-is v-is ∙ n)), n) (pm ∙ rw (pw, pd, pb, r-is))
+          let k = kind-is tape at r-is v-is in
+          let n : isName (getD (bytesAt tape at) 0 0) ≡ true = rw (← k) e in
+          rw (ne-eqb _ number (λ n. x (k ∙ n)), ne-eqb _ currentPlace (λ n. y (k ∙ n)), n) (pm ∙ rw (pw, pd, pb, r-is))
 
       pub leaf-none : isName v ≡ false → {m : Meaning} → m ≡ (at, Refuses badRecord at) → m ≡ leaf tape numbers place at
       unfolding leaf
       leaf-none e pm =
-          let n : isName (getD (bytesAt tape at) 0 0) ≡ false = rw (← kind-is tape at r-is v-is) e in
-          rw (ne-eqb _ number (λ n. x (kind-is tape at r-is v-is ∙ n)), ne-eqb _ currentPlace (λ n. y (kind-is tape at r-is v-is ∙ n)), n) pm
+          let k = kind-is tape at r-is v-is in
+          let n : isName (getD (bytesAt tape at) 0 0) ≡ false = rw (← k) e in
+          rw (ne-eqb _ number (λ n. x (k ∙ n)), ne-eqb _ currentPlace (λ n. y (k ∙ n)), n) pm
 
 -- ---- one step of depth
 
@@ -91,15 +99,21 @@ module _ (tape : List ℕ) (numbers : ℕ → Option ℤ) (place : ℤ) (at d : 
     unfolding expression factor
     as-expression h e = sym (ap (λ (n : ℕ). expression tape numbers place n at) depth ∙ rw (← e))
 
-    as-factor : (h : Option (ℕ × ℕ)) → h ≡ innerAt tape at flags → factorBy tape numbers place h (expression tape numbers place (d - 1)) at ≡ factor tape numbers place d at
+    as-factor : (h : Option (ℕ × ℕ)) → h ≡ innerAt tape at flags
+        → factorBy tape numbers place h (expression tape numbers place (d - 1)) at ≡ factor tape numbers place d at
     unfolding factor
     as-factor h e = sym (ap (λ (n : ℕ). factor tape numbers place n at) depth ∙ rw (← e))
 
-    pub expression-factor : none ≡ innerAt tape at binary → {m : Meaning} → m ≡ factor tape numbers (back place) d at → m ≡ expression tape numbers place d at
+    pub expression-factor : none ≡ innerAt tape at binary → {m : Meaning} → m ≡ factor tape numbers (back place) d at
+        → m ≡ expression tape numbers place d at
     expression-factor h pm =
-        pm ∙ ap (λ (z : ℤ). factor tape numbers z d at) (toZ-ofZ f) ∙ ap (λ (n : ℕ). factor tape numbers place n at) depth ∙ as-expression none h
+        pm
+        ∙ ap (λ (z : ℤ). factor tape numbers z d at) (toZ-ofZ f)
+        ∙ ap (λ (n : ℕ). factor tape numbers place n at) depth
+        ∙ as-expression none h
 
-    pub factor-leaf : none ≡ innerAt tape at flags → {m : Meaning} → m ≡ leaf tape numbers (back place) at → m ≡ factor tape numbers place d at
+    pub factor-leaf : none ≡ innerAt tape at flags → {m : Meaning} → m ≡ leaf tape numbers (back place) at
+        → m ≡ factor tape numbers place d at
     factor-leaf h pm = pm ∙ ap (λ (z : ℤ). leaf tape numbers z at) (toZ-ofZ f) ∙ as-factor none h
 
     module _ {b next : ℕ} where
@@ -110,8 +124,11 @@ module _ (tape : List ℕ) (numbers : ℕ → Option ℤ) (place : ℤ) (at d : 
           let right : r ≡ expression tape numbers place (d - 1) (l .0) = pr ∙ same (l .0) in
           pm ∙ rw (right, left) (as-expression (some (b, next)) h)
 
-      pub factor-flags : some (b, next) ≡ innerAt tape at flags → {i m : Meaning} → i ≡ inner next → m ≡ (i .0, changed at b (i .1)) → m ≡ factor tape numbers place d at
-      factor-flags h {i} pi pm = let is : i ≡ expression tape numbers place (d - 1) next = pi ∙ same next in pm ∙ rw is (as-factor (some (b, next)) h)
+      pub factor-flags : some (b, next) ≡ innerAt tape at flags → {i m : Meaning} → i ≡ inner next → m ≡ (i .0, changed at b (i .1))
+          → m ≡ factor tape numbers place d at
+      factor-flags h {i} pi pm =
+          let is : i ≡ expression tape numbers place (d - 1) next = pi ∙ same next in
+          pm ∙ rw is (as-factor (some (b, next)) h)
 
 -- ---- the expression at an offset
 

@@ -43,7 +43,8 @@ module _ (nodes : List ℕ) (at : ℕ) (rec links : List ℕ) (edges scope : ℕ
 
 -- what is noted at the cursor, and what stays
 module _ (links : List ℕ) (edges scope : ℕ) (nodes : List ℕ) (at : ℕ) (rec : List ℕ) where
-  note-here : isName (getD rec 0 0) ≡ true → at < length nodes → getD (noteOf nodes at rec links edges scope) at 0 ≡ noted (nodeOf links edges scope rec)
+  note-here : isName (getD rec 0 0) ≡ true → at < length nodes
+      → getD (noteOf nodes at rec links edges scope) at 0 ≡ noted (nodeOf links edges scope rec)
   unfolding noteOf
   note-here e h = rw (e, getD-set-same nodes at (noted (nodeOf links edges scope rec)) 0 h)
 
@@ -63,7 +64,8 @@ module _ (links : List ℕ) (edges scope : ℕ) (nodes : List ℕ) (at : ℕ) (r
       go true = length-set nodes at (noted (nodeOf links edges scope rec))
       go false = refl
 
-  note-cursor : (tape : List ℕ) → rec ≡ bytesAt tape at → at < length nodes → NotedAt tape links edges scope (noteOf nodes at rec links edges scope) at
+  note-cursor : (tape : List ℕ) → rec ≡ bytesAt tape at → at < length nodes
+      → NotedAt tape links edges scope (noteOf nodes at rec links edges scope) at
   unfolding NameAt
   note-cursor tape is room name =
       let h : isName (getD rec 0 0) ≡ true = ap (λ (r : List ℕ). isName (getD r 0 0)) is ∙ name in
@@ -101,23 +103,33 @@ module _ (tape links : List ℕ) (edges scope : ℕ) where
   stuck at e zero = refl
   stuck at e (suc k) = let z : at + length (bytesAt tape at) ≡ at = omega arith in ap (onward tape k) z ∙ stuck at e k
 
-  pub going-done : {nodes : List ℕ} {at : ℕ} → Going tape links edges scope nodes at → length (bytesAt tape at) ≡ 0 → Resolved tape links edges scope nodes
+  pub going-done : {nodes : List ℕ} {at : ℕ} → Going tape links edges scope nodes at → length (bytesAt tape at) ≡ 0
+      → Resolved tape links edges scope nodes
   going-done {nodes} {at} g e k = elim (decLt k (g .passed)) [ yes h ↦ g .done k h | no h ↦ λ name. absurd (after h name) ]
     where
       after : (k < g .passed → ⊥) → NameAt tape (onward tape k 0) → ⊥
       after h name =
           let j : k - g .passed + g .passed ≡ k = omega arith in
-          let is : onward tape k 0 ≡ at = ap (λ (i : ℕ). onward tape i 0) (sym j) ∙ sym (onward-onward tape (k - g .passed) (g .passed) 0) ∙ ap (onward tape (k - g .passed)) (sym (g .here)) ∙ stuck at e (k - g .passed) in
+          let more = k - g .passed in
+          let is : onward tape k 0 ≡ at =
+          ap (λ (i : ℕ). onward tape i 0) (sym j)
+          ∙ sym (onward-onward tape more (g .passed) 0)
+          ∙ ap (onward tape more) (sym (g .here))
+          ∙ stuck at e more in
           let some-byte = name-some tape (onward tape k 0) name in
           let none-there : length (bytesAt tape (onward tape k 0)) ≡ 0 = ap (λ (i : ℕ). length (bytesAt tape i)) is ∙ e in
           omega arith
 
   -- one record more
-  pub going-on : {nodes nodes′ : List ℕ} {at : ℕ} → Going tape links edges scope nodes at → at < length nodes → {rec : List ℕ} → rec ≡ bytesAt tape at
+  pub going-on : {nodes nodes′ : List ℕ} {at : ℕ} → Going tape links edges scope nodes at → at < length nodes → {rec : List ℕ}
+      → rec ≡ bytesAt tape at
       → nodes′ ≡ noteOf nodes at rec links edges scope → Going tape links edges scope nodes′ (at + length rec)
   going-on {nodes} {nodes′} {at} g room {rec} is new = record {
     passed = suc (g .passed);
-    here = ap (λ (r : List ℕ). at + length r) is ∙ ap (λ (i : ℕ). i + length (bytesAt tape i)) (g .here) ∙ sym (onward-one tape (g .passed) 0);
+    here =
+        ap (λ (r : List ℕ). at + length r) is
+        ∙ ap (λ (i : ℕ). i + length (bytesAt tape i)) (g .here)
+        ∙ sym (onward-one tape (g .passed) 0);
     done = λ j h. elim (decLt j (g .passed)) [ yes l ↦ before j l | no l ↦ here j (omega arith) ];
   }
     where
@@ -126,7 +138,9 @@ module _ (tape links : List ℕ) (edges scope : ℕ) where
           let first = onward-one tape j 0 in
           let later = onward-later tape (suc j) (g .passed) 0 l in
           let apart : onward tape j 0 ≡ at → ⊥ = λ e. omega (arith, name-some tape (onward tape j 0) name, g .here) in
-          ap (λ (l : List ℕ). getD l (onward tape j 0) 0) new ∙ note-there links edges scope nodes at rec (onward tape j 0) apart ∙ g .done j l name
+          ap (λ (l : List ℕ). getD l (onward tape j 0) 0) new
+          ∙ note-there links edges scope nodes at rec (onward tape j 0) apart
+          ∙ g .done j l name
 
       here : (j : ℕ) → j ≡ g .passed → NotedAt tape links edges scope nodes′ (onward tape j 0)
       here j e =

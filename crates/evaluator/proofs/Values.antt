@@ -47,11 +47,14 @@ module _ (at op : ℕ) {a b : ℤ} (f : SFits w64 a) (g : SFits w64 b) {l r : Va
   join-numbers pl pr py px =
       px
       ∙ ap (valued at) (py ∙ ap (λ (n : ℤ). applied op n (back b)) (toZ-ofZ f) ∙ ap (applied op a) (toZ-ofZ g))
-      ∙ sym (ap (λ (v : Val.Value). joined at op (saysValue v) (saysValue r)) pl ∙ ap (λ (v : Val.Value). joined at op (Number a) (saysValue v)) pr)
+      ∙ sym
+      (ap (λ (v : Val.Value). joined at op (saysValue v) (saysValue r)) pl
+      ∙ ap (λ (v : Val.Value). joined at op (Number a) (saysValue v)) pr)
 
 -- ---- flags
 
-pub change-number : (at flags : ℕ) {a : ℤ} → SFits w64 a → {v : Val.Value} → v ≡ came.Number a → {x : Value} {y : Answer ℤ} → y ≡ flagged flags (back a)
+pub change-number : (at flags : ℕ) {a : ℤ} → SFits w64 a → {v : Val.Value} → v ≡ came.Number a → {x : Value} {y : Answer ℤ}
+    → y ≡ flagged flags (back a)
     → x ≡ valued at y → x ≡ changed at flags (saysValue v)
 change-number at flags f pv py px =
     px ∙ ap (valued at) (py ∙ ap (flagged flags) (toZ-ofZ f)) ∙ sym (ap (λ (v : Val.Value). changed at flags (saysValue v)) pv)
@@ -66,7 +69,8 @@ module _ (flags : ℕ) {a : ℤ} (f : SFits w64 a) where
     unfolding flagged
     flag-neg e h = rw (ne-eqb flags 1 x, eq-eqb flags 2 e, h, toZ-ofZ f)
 
-    pub flag-both : (flags ≡ 2 → ⊥) → {r : Answer ℤ} {s : ℤ} → SFits w64 s → s ≡ notOf (back a) → r ≡ fit (negℤ (back s)) → r ≡ flagged flags a
+    pub flag-both : (flags ≡ 2 → ⊥) → {r : Answer ℤ} {s : ℤ} → SFits w64 s → s ≡ notOf (back a) → r ≡ fit (negℤ (back s))
+        → r ≡ flagged flags a
     unfolding flagged
     flag-both y g hs hr = rw (ne-eqb flags 1 x, ne-eqb flags 2 y, hr, toZ-ofZ g, hs, toZ-ofZ f)
 
@@ -90,7 +94,8 @@ module _ (m : ℕ) {z : ℤ} (f : SFits w64 z) where
     modified-high y s h = small s ∙ rw (ne-eqb m 0 x, ne-eqb m 1 y, h, toZ-ofZ f)
 
 module _ (m at : ℕ) {d : D.Data} where
-  pub named-number : {z r : ℤ} → SFits w64 z → SFits w64 r → d ≡ datum.Number z → r ≡ modified m (back z) → Number (back r) ≡ named m at (saysData d)
+  pub named-number : {z r : ℤ} → SFits w64 z → SFits w64 r → d ≡ datum.Number z → r ≡ modified m (back z)
+      → Number (back r) ≡ named m at (saysData d)
   named-number f g e h = ap Number (toZ-ofZ g ∙ h ∙ ap (modified m) (toZ-ofZ f)) ∙ sym (ap (λ (x : D.Data). named m at (saysData x)) e)
 
   pub named-none : d ≡ datum.Unresolved → Unresolved at ≡ named m at (saysData d)

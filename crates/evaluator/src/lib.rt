@@ -68,7 +68,8 @@ pub fn expression_at<'a>(
     place: i64,
     at: usize,
 ) -> Step
-    ensures { λ r. ⌜ saysStep r ≡ expressionAt (now (tape .entry)) (now (nodes .entry)) (now (known .entry)) (now (number .entry)) place at ⌝ }
+    ensures { λ r. ⌜ saysStep r
+        ≡ expressionAt (now (tape .entry)) (now (nodes .entry)) (now (known .entry)) (now (number .entry)) place at ⌝ }
 {
     expression(DEEPEST as usize, tape, nodes, known, number, place, at)
 }
@@ -107,7 +108,8 @@ fn expression<'a>(
     place: i64,
     at: usize,
 ) -> Step
-    ensures { λ r. ⌜ saysStep r ≡ expression (now (tape .entry)) (fromNodes (now (nodes .entry)) (now (known .entry)) (now (number .entry))) place depth at ⌝ }
+    ensures { λ r. ⌜ saysStep r
+        ≡ expression (now (tape .entry)) (fromNodes (now (nodes .entry)) (now (known .entry)) (now (number .entry))) place depth at ⌝ }
 {
     if depth == 0 {
         return refused(TOO_DEEP, at);
@@ -133,7 +135,8 @@ fn factor<'a>(
     place: i64,
     at: usize,
 ) -> Step
-    ensures { λ r. ⌜ saysStep r ≡ factor (now (tape .entry)) (fromNodes (now (nodes .entry)) (now (known .entry)) (now (number .entry))) place depth at ⌝ }
+    ensures { λ r. ⌜ saysStep r
+        ≡ factor (now (tape .entry)) (fromNodes (now (nodes .entry)) (now (known .entry)) (now (number .entry))) place depth at ⌝ }
 {
     if depth == 0 {
         return refused(TOO_DEEP, at);
@@ -156,7 +159,8 @@ fn leaf<'a>(
     place: i64,
     at: usize,
 ) -> Step
-    ensures { λ r. ⌜ saysStep r ≡ leaf (now (tape .entry)) (fromNodes (now (nodes .entry)) (now (known .entry)) (now (number .entry))) place at ⌝ }
+    ensures { λ r. ⌜ saysStep r
+        ≡ leaf (now (tape .entry)) (fromNodes (now (nodes .entry)) (now (known .entry)) (now (number .entry))) place at ⌝ }
 {
     let rec = tape::record(tape, at);
     let kind = little::u8_at(rec, 0);
@@ -361,32 +365,15 @@ fn value_alone<'a>(
     place: i64,
 ) -> Value
     requires { ⌜ length (now bytes) ≤ maxTape ⌝ }
-    ensures { λ r. ⌜ saysValue r ≡ valueFrom (now (bytes .entry)) (now (links .entry)) edges (now (known .entry)) (now (number .entry)) scope place ⌝ }
+    ensures { λ r. ⌜ saysValue r
+        ≡ valueFrom (now (bytes .entry)) (now (links .entry)) edges (now (known .entry)) (now (number .entry)) scope place ⌝ }
 {
     if bytes.len() <= SHORT {
         let mut nodes = [0u16; SHORT];
-        value_with(
-            bytes,
-            links,
-            edges,
-            known,
-            number,
-            scope,
-            place,
-            &mut nodes[..],
-        )
+        value_with(bytes, links, edges, known, number, scope, place, &mut nodes)
     } else {
         let mut nodes = [0u16; LONGEST];
-        value_with(
-            bytes,
-            links,
-            edges,
-            known,
-            number,
-            scope,
-            place,
-            &mut nodes[..],
-        )
+        value_with(bytes, links, edges, known, number, scope, place, &mut nodes)
     }
 }
 
@@ -402,7 +389,8 @@ fn value_with<'a>(
     nodes: &mut [u16],
 ) -> Value
     requires { ⌜ length (now bytes) ≤ length (now nodes) ⌝ }
-    ensures { λ r. ⌜ saysValue r ≡ valueFrom (now (bytes .entry)) (now (links .entry)) edges (now (known .entry)) (now (number .entry)) scope place ⌝ }
+    ensures { λ r. ⌜ saysValue r
+        ≡ valueFrom (now (bytes .entry)) (now (links .entry)) edges (now (known .entry)) (now (number .entry)) scope place ⌝ }
 {
     resolve(bytes, links, edges, scope, nodes);
     let step = expression_at(bytes, nodes, known, number, place, 0);

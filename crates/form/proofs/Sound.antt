@@ -82,7 +82,8 @@ module _ (alone : Bool) (bytes : List ℕ) (at : ℕ) (p : Pending) (more : (alo
       never (cc))
 
   -- the end record is the end; behind any other the reading goes on
-  pub sound-stop : getD here 0 0 ≡ end → readAt alone bytes p at ≡ readFrom alone (Ended p (at + length here)) (drop (at + length here) bytes)
+  pub sound-stop : getD here 0 0 ≡ end
+      → readAt alone bytes p at ≡ readFrom alone (Ended p (at + length here)) (drop (at + length here) bytes)
   sound-stop e = sound-landed ∙ ap landed (sym (step-stop p here (faultOf (p .scopes) here) refl sound-fault (getD here 0 0) refl e))
 
   pub sound-go : (getD here 0 0 ≡ end → ⊥) → readAt alone bytes p at ≡ readAt alone bytes (after p here) (at + length here)

@@ -26,7 +26,8 @@ returns-3 : tie.Need-returns-3
 returns-3 c =
     let negated = c .before in
     let other = negated .before in
-    values.flag-both _ (other .before .before .fits .a) (other .before .if1 .left) (other .if2 .left) (record { sfits = negated .not2 .ok }) (negated .not2 .ensures) (c .neg2 .ensures)
+    values.flag-both _ (other .before .before .fits .a) (other .before .if1 .left) (other .if2 .left)
+    (record { sfits = negated .not2 .ok }) (negated .not2 .ensures) (c .neg2 .ensures)
 
 pub flag-spec : {M : Type 1} → statement M
 flag-spec =

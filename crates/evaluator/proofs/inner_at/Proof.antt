@@ -23,7 +23,8 @@ add-t8 c = omega (arith, meanings.ends _ _ (c .before .before .before .«record�
 returns-2 : tie.Need-returns-2
 returns-2 c =
     let tested = c .before in
-    meanings.inner-is _ _ _ (tested .before .before .«record» .ensures) (tested .before .u8-at .ensures) (tested .if1 .left) (c .u8-at2 .ensures)
+    let read = tested .before in
+    meanings.inner-is _ _ _ (read .before .«record» .ensures) (read .u8-at .ensures) (tested .if1 .left) (c .u8-at2 .ensures)
 
 pub inner-at-spec : {M : Type 1} → statement M
 inner-at-spec =

@@ -26,7 +26,8 @@ returns c =
     let read = c .before in
     let tested = read .before in
     let kind = tested .before in
-    meanings.leaf-number _ _ _ _ (kind .before .«record» .ensures) (kind .u8-at .ensures) (tested .if1 .taken) (record { sfits = read .i64-at .ok }) (read .i64-at .ensures) (c .found .ensures)
+    meanings.leaf-number _ _ _ _ (kind .before .«record» .ensures) (kind .u8-at .ensures) (tested .if1 .taken)
+    (record { sfits = read .i64-at .ok }) (read .i64-at .ensures) (c .found .ensures)
 
 add-found-2 : tie.Need-add-found-2
 add-found-2 c = omega (arith, meanings.ends _ _ (c .before .before .before .«record» .ensures) (omega arith) (omega arith))
@@ -39,7 +40,9 @@ returns-2 c =
     let tested = c .before in
     let other = tested .before in
     let kind = other .before in
-    meanings.leaf-place _ _ _ _ (kind .before .«record» .ensures) (kind .u8-at .ensures) (other .if1 .left) (tested .if2 .taken) (kind .before .before .before .before .fits .place) (c .found2 .ensures)
+    let at-entry = kind .before .before .before .before in
+    meanings.leaf-place _ _ _ _ (kind .before .«record» .ensures) (kind .u8-at .ensures) (other .if1 .left) (tested .if2 .taken)
+    (at-entry .fits .place) (c .found2 .ensures)
 
 is-name-requires : tie.Need-is-name-requires
 is-name-requires c κs = search needs
@@ -48,7 +51,9 @@ number-of-requires : tie.Need-number-of-requires
 number-of-requires c κs = search needs
 
 add-t18 : tie.Need-add-t18
-add-t18 c = omega (arith, meanings.ends _ _ (c .before .before .before .before .before .before .«record» .ensures) (omega arith) (omega arith))
+add-t18 c =
+    let read = c .before .before .before .before .before .before in
+    omega (arith, meanings.ends _ _ (read .«record» .ensures) (omega arith) (omega arith))
 
 u8-at-requires-2 : tie.Need-u8-at-requires-2
 u8-at-requires-2 c κs = search needs
@@ -65,7 +70,8 @@ returns-3 c =
     let other = named .before in
     let kind = other .before .before in
     let is = sym (named .is-name .ensures) ∙ tested .if3 .taken in
-    meanings.leaf-name _ _ _ _ (kind .before .«record» .ensures) (kind .u8-at .ensures) (other .before .if1 .left) (other .if2 .left) is (modifier .u8-at2 .ensures) (reached .number-of .ensures) (c .named .ensures) refl
+    meanings.leaf-name _ _ _ _ (kind .before .«record» .ensures) (kind .u8-at .ensures) (other .before .if1 .left) (other .if2 .left) is
+    (modifier .u8-at2 .ensures) (reached .number-of .ensures) (c .named .ensures) refl
 
 refused-requires : tie.Need-refused-requires
 refused-requires c κs = search needs
@@ -77,7 +83,8 @@ returns-4 c =
     let other = named .before in
     let kind = other .before .before in
     let is = sym (named .is-name .ensures) ∙ tested .if3 .left in
-    meanings.leaf-none _ _ _ _ (kind .before .«record» .ensures) (kind .u8-at .ensures) (other .before .if1 .left) (other .if2 .left) is (c .refused .ensures)
+    meanings.leaf-none _ _ _ _ (kind .before .«record» .ensures) (kind .u8-at .ensures) (other .before .if1 .left) (other .if2 .left) is
+    (c .refused .ensures)
 
 pub leaf-spec : {M : Type 1} → statement M
 leaf-spec =

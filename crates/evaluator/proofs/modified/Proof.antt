@@ -15,7 +15,10 @@ cast-result : tie.Need-cast-result
 cast-result c = search needs
 
 returns-2 : tie.Need-returns-2
-returns-2 c = values.modified-low _ (c .before .before .before .fits .z) (c .before .before .if1 .left) (c .before .if2 .taken) (omega arith) (c .low-byte .ensures)
+returns-2 c =
+    let tested = c .before in
+    let at-entry = tested .before .before in
+    values.modified-low _ (at-entry .fits .z) (tested .before .if1 .left) (tested .if2 .taken) (omega arith) (c .low-byte .ensures)
 
 high-byte-requires : tie.Need-high-byte-requires
 high-byte-requires c κs = search needs
@@ -24,7 +27,10 @@ cast-result-2 : tie.Need-cast-result-2
 cast-result-2 c = search needs
 
 returns-3 : tie.Need-returns-3
-returns-3 c = values.modified-high _ (c .before .before .before .fits .z) (c .before .before .if1 .left) (c .before .if2 .left) (omega arith) (c .high-byte .ensures)
+returns-3 c =
+    let tested = c .before in
+    let at-entry = tested .before .before in
+    values.modified-high _ (at-entry .fits .z) (tested .before .if1 .left) (tested .if2 .left) (omega arith) (c .high-byte .ensures)
 
 pub modified-spec : {M : Type 1} → statement M
 modified-spec =

@@ -58,7 +58,8 @@ loop-again c =
     let turn = found .before in
     let kept = turn .before .loop .inv in
     let fits = turn .before .before .before .before .pre in (
-      resolving.going-on _ _ _ _ (kept .0) (omega (arith, turn .loop-test .taken, kept .1, fits)) (found .«record» .ensures) (note .note .ensures),
+      resolving.going-on _ _ _ _ (kept .0) (omega (arith, turn .loop-test .taken, kept .1, fits))
+          (found .«record» .ensures) (note .note .ensures),
       ap length (note .note .ensures) ∙ resolving.note-length _ _ _ _ _ _ ∙ kept .1,
     )
 
