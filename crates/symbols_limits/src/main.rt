@@ -26,6 +26,7 @@ fn main() {
     loops(named());
     edges(chained(SymbolTable::new(), 0, 2));
     nodes(chained(SymbolTable::new(), 0, 1022));
+    lent(linked(linked(sized(3, 0), 1, 5, 2), 2, 5, 1));
 }
 
 // Prints the words of a question.
@@ -417,4 +418,43 @@ fn deepest(table: SymbolTable) {
     reads(table, 1023, &ids[3..4]);
     print_word(b"by no id");
     reads(table, 1023, &ids[0..0]);
+}
+
+// Edges that are lent, of a table whose nodes 1 and 2 are each other's parents: nothing is tested but how many they are.
+fn lent(table: SymbolTable) {
+    let ids = [5u16, 5, 5, 5, 6];
+    print_word(b"lent, with a loop");
+    found(
+        b" by 5 from 1",
+        symbols::query_edges(&table.links, 2, 1, &ids[0..1]),
+    );
+    found(
+        b" by 5 5 5 5 from 1",
+        symbols::query_edges(&table.links, 2, 1, &ids[0..4]),
+    );
+    found(
+        b" by 6 from 1",
+        symbols::query_edges(&table.links, 2, 1, &ids[4..5]),
+    );
+    found(
+        b" by 6 from 9",
+        symbols::query_edges(&table.links, 2, 9, &ids[4..5]),
+    );
+    found(
+        b" by no id from 9",
+        symbols::query_edges(&table.links, 2, 9, &ids[0..0]),
+    );
+    found(b" five ids", symbols::query_edges(&table.links, 2, 1, &ids));
+    found(
+        b" 2048 edges",
+        symbols::query_edges(&table.links, 2048, 1, &ids[0..1]),
+    );
+    found(
+        b" 2049 edges",
+        symbols::query_edges(&table.links, 2049, 1, &ids[0..1]),
+    );
+    found(
+        b" 2^64 - 1 edges",
+        symbols::query_edges(&table.links, 18446744073709551615, 1, &ids[0..1]),
+    );
 }

@@ -124,12 +124,15 @@ module _ (tape : List ℕ) (at : ℕ) where
 
   -- no record of a tape is longer than ten bytes
   pub record-most : length (bytesAt tape at) ≤ 10
-  record-most = record-is (λ a. length (part a) ≤ 10) (λ h. omega arith) (λ h. omega arith) (λ some h. omega arith) (λ some h l e. omega (arith, size-most (getD tape at 0)))
+  record-most =
+      record-is (λ a. length (part a) ≤ 10) (λ h. omega arith) (λ h. omega arith) (λ some h. omega arith)
+      (λ some h l e. omega (arith, size-most (getD tape at 0)))
 
   -- n is the length of a whole record: those n bytes are it, and they lie within the tape
   pub found-whole : (n : ℕ) → Fine n ≡ mapped length (recordAt tape at) → (at + n ≤ length tape) × (first n ≡ bytesAt tape at)
   found-whole n =
-      record-is (λ a. Fine n ≡ mapped length a → (at + n ≤ length tape) × (first n ≡ part a)) (λ h e. never (cc)) (λ h e. never (cc)) (λ some h e. never (cc))
+      record-is (λ a. Fine n ≡ mapped length a → (at + n ≤ length tape) × (first n ≡ part a))
+      (λ h e. never (cc)) (λ h e. never (cc)) (λ some h e. never (cc))
       (λ some h l p e. let is : n ≡ size = number e ∙ p in (omega arith, ap first is))
     where
       number : {m : ℕ} → _≡_ {A = AnswerAt ℕ} (Fine n) (Fine m) → n ≡ m
@@ -156,7 +159,8 @@ module _ (tape : List ℕ) (at : ℕ) where
     -- else it is those bytes, as many as its kind says
     pub record-some : (length (bytesAt tape at) ≡ 0 → ⊥) → (bytesAt tape at ≡ first size) × (size ≤ left)
     record-some =
-        record-is (λ a. (length (part a) ≡ 0 → ⊥) → (part a ≡ first size) × (size ≤ left)) (λ p x. absurd (x refl)) (λ p x. absurd (x refl)) (λ some p x. absurd (x refl))
+        record-is (λ a. (length (part a) ≡ 0 → ⊥) → (part a ≡ first size) × (size ≤ left))
+        (λ p x. absurd (x refl)) (λ p x. absurd (x refl)) (λ some p x. absurd (x refl))
         (λ some p q e x. (refl, p))
 
     -- and its first byte is the kind
