@@ -1,9 +1,11 @@
-//! The kinds of question: one for each module of mos that is asked, and decode and branch, which
-//! the port adds to opcodes.rs.
+//! The kinds of question: one for each module of mos that is asked, and for its evaluator a second,
+//! expressions; and decode, branch and form, which the port adds.
 
 mod branch;
 mod decode;
 mod evaluator;
+mod expressions;
+mod form;
 mod opcodes;
 mod program_counter;
 mod segment;
@@ -40,6 +42,8 @@ pub fn all() -> Vec<Kind> {
         segment::kind(),
         source_map::kind(),
         symbols::kind(),
+        expressions::kind(),
+        form::kind(),
         text_encoding::kind(),
     ]
 }

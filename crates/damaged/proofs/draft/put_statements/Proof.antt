@@ -1,0 +1,48 @@
+-- `put_statements` is safe and ends: each turn leaves fewer statements. The loop keeps the length. Assumes nothing.
+use mathlib.Core.Path.{_≡_, refl}
+use native.Mathlib.Omega.{arith}
+use borrow.Author.Needs.{needs}
+use lib.ListN.{length}
+use Rattle.damaged.proofs.draft.put_statements.Statement.{statement}
+use Rattle.damaged.proofs.draft.put_statements.Tie as tie
+
+abbrev Inv-loop : tie.InvT-loop
+Inv-loop bytes₀ count longer₀ left₀ bytes longer left = length bytes ≡ length bytes₀
+
+abbrev μ-loop : tie.MeasureT-loop
+μ-loop bytes₀ count longer₀ left₀ bytes longer left = left
+
+loop-holds : tie.Need-loop-holds Inv-loop μ-loop
+loop-holds c = refl
+
+put-statement-requires : tie.Need-put-statement-requires Inv-loop μ-loop
+put-statement-requires c κs = tt
+
+sub-left : tie.Need-sub-left Inv-loop μ-loop
+sub-left c = omega arith
+
+loop-less : tie.Need-loop-less Inv-loop μ-loop
+loop-less c = omega arith
+
+loop-again : tie.Need-loop-again Inv-loop μ-loop
+loop-again c = search needs
+
+same-length : tie.Need-same-length Inv-loop μ-loop
+same-length c = search needs
+
+returns : tie.Need-returns Inv-loop μ-loop
+returns c = tt
+
+pub put-statements-spec : {M : Type 1} → statement M
+put-statements-spec =
+    tie.close
+    (tie.spec
+    Inv-loop
+    μ-loop
+    loop-holds
+    put-statement-requires
+    sub-left
+    loop-less
+    loop-again
+    same-length
+    returns)
