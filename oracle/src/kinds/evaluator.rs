@@ -7,7 +7,7 @@
 use super::{number_at, Answerer, Kind};
 use crate::random::Random;
 use crate::refusal::{or_refused, tried};
-use mos::codegen::{Evaluator, FunctionMap, Symbol, SymbolTable, SymbolType};
+use mos::codegen::{Evaluator, FunctionMap, Symbol, SymbolData, SymbolTable, SymbolType};
 use mos::parser::code_map::{CodeMap, Span};
 use mos::parser::{
     AddressModifier, BinaryExpression, BinaryOp, Expression, ExpressionFactor,
@@ -15,7 +15,7 @@ use mos::parser::{
 };
 
 #[rustfmt::skip]
-const BINARY: [BinaryOp; 16] = {
+pub(super) const BINARY: [BinaryOp; 16] = {
     use BinaryOp::*;
     [Add, Sub, Mul, Div, Mod, Shl, Shr, Xor, Eq, Ne, Gt, GtEq, Lt, LtEq, And, Or]
 };
@@ -181,15 +181,19 @@ fn no_symbols() -> SymbolTable<Symbol> {
 // A table in which the name `a` has a number.
 fn one_symbol(number: i64) -> SymbolTable<Symbol> {
     let mut table = no_symbols();
-    let symbol = Symbol {
+    table.insert(table.root, "a", symbol(number.into()));
+    table
+}
+
+// A symbol with this data.
+pub(super) fn symbol(data: SymbolData) -> Symbol {
+    Symbol {
         pass_idx: 0,
         span: None,
         segment: None,
-        data: number.into(),
+        data,
         ty: SymbolType::Constant,
-    };
-    table.insert(table.root, "a", symbol);
-    table
+    }
 }
 
 // Two numbers with an operation between them.
@@ -218,13 +222,13 @@ fn name(modifier: AddressModifier) -> Located<Expression> {
 }
 
 // A factor as an expression.
-fn factor(factor: ExpressionFactor, flags: ExpressionFactorFlags) -> Located<Expression> {
+pub(super) fn factor(factor: ExpressionFactor, flags: ExpressionFactorFlags) -> Located<Expression> {
     let factor = Box::new(located(factor));
     located(Expression::Factor { factor, flags })
 }
 
 // A piece of the tree at no place in particular.
-fn located<T>(data: T) -> Located<T> {
+pub(super) fn located<T>(data: T) -> Located<T> {
     Located {
         span: some_span(),
         data,

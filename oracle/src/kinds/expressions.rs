@@ -22,16 +22,16 @@
 pub mod records;
 mod scripts;
 
+use super::evaluator::{factor, located, symbol, BINARY as OPERATORS};
+use super::symbols::{id_of, index, word_at};
 use super::{number_at, Answerer, Kind};
 use crate::refusal::tried;
 use mos::codegen::{
-    EvaluationResult, Evaluator, FunctionMap, ProgramCounter, Symbol, SymbolData, SymbolIndex,
-    SymbolTable, SymbolType,
+    EvaluationResult, Evaluator, FunctionMap, ProgramCounter, Symbol, SymbolData, SymbolTable,
 };
-use mos::parser::code_map::{CodeMap, Span};
 use mos::parser::{
-    AddressModifier, BinaryExpression, BinaryOp, Expression, ExpressionFactor,
-    ExpressionFactorFlags, Identifier, IdentifierPath, Located, Number,
+    AddressModifier, BinaryExpression, Expression, ExpressionFactor, ExpressionFactorFlags,
+    IdentifierPath, Located, Number,
 };
 use records::*;
 
@@ -48,12 +48,6 @@ const PART: usize = 20;
 const ARGUMENT: u8 = 1;
 const ARITHMETIC: u8 = 10;
 const UNRESOLVED: u8 = 11;
-
-#[rustfmt::skip]
-const OPERATORS: [BinaryOp; 16] = {
-    use BinaryOp::*;
-    [Add, Sub, Mul, Div, Mod, Shl, Shr, Xor, Eq, Ne, Gt, GtEq, Lt, LtEq, And, Or]
-};
 
 /// A question.
 #[derive(Clone, Copy)]
@@ -128,11 +122,6 @@ fn read(question: &[u8]) -> Question<'_> {
         MORE => More(part),
         _ => Evaluate(node, number, part),
     }
-}
-
-// The u16 in the two bytes from an offset on.
-fn word_at(bytes: &[u8], offset: usize) -> u16 {
-    u16::from_le_bytes([bytes[offset], bytes[offset + 1]])
 }
 
 // The table and the unfinished expression are kept.
@@ -318,48 +307,5 @@ fn modifier_of(byte: u8) -> Option<AddressModifier> {
         LOW => Some(AddressModifier::LowByte),
         HIGH => Some(AddressModifier::HighByte),
         _ => panic!("no modifier is {byte}"),
-    }
-}
-
-// A factor as an expression.
-fn factor(factor: ExpressionFactor, flags: ExpressionFactorFlags) -> Located<Expression> {
-    let factor = Box::new(located(factor));
-    located(Expression::Factor { factor, flags })
-}
-
-// A piece of the tree at no place in particular.
-fn located<T>(data: T) -> Located<T> {
-    let span = some_span();
-    Located { span, data }
-}
-
-// The span of an empty file; a span cannot be had without a file.
-fn some_span() -> Span {
-    CodeMap::default()
-        .add_file(String::new(), String::new())
-        .span
-}
-
-// A symbol with this data.
-fn symbol(data: SymbolData) -> Symbol {
-    Symbol {
-        pass_idx: 0,
-        span: None,
-        segment: None,
-        data,
-        ty: SymbolType::Constant,
-    }
-}
-
-// A node as the Rust numbers it.
-fn index(node: u16) -> SymbolIndex {
-    SymbolIndex::new(node.into())
-}
-
-// The name of an id: its digits.
-fn id_of(id: u16) -> Identifier {
-    match id {
-        SUPER => Identifier::sup(),
-        _ => Identifier::new(id.to_string()),
     }
 }

@@ -123,7 +123,7 @@ fn path_bytes(path: &[u16]) -> Vec<u8> {
 }
 
 // The u16 in the two bytes from an offset on.
-fn word_at(question: &[u8], offset: usize) -> u16 {
+pub(super) fn word_at(question: &[u8], offset: usize) -> u16 {
     u16::from_le_bytes([question[offset], question[offset + 1]])
 }
 
@@ -338,7 +338,7 @@ fn found(node: Option<u16>) -> String {
 }
 
 // A node as the Rust numbers it.
-fn index(nx: u16) -> SymbolIndex {
+pub(super) fn index(nx: u16) -> SymbolIndex {
     SymbolIndex::new(nx.into())
 }
 
@@ -348,7 +348,7 @@ fn number(node: SymbolIndex) -> u16 {
 }
 
 // The name of an id: its digits.
-fn id_of(id: u16) -> Identifier {
+pub(super) fn id_of(id: u16) -> Identifier {
     match id {
         SUPER => Identifier::sup(),
         _ => Identifier::new(id.to_string()),
