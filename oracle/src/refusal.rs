@@ -1,6 +1,18 @@
-//! How the Rust refuses.
+//! How the Rust refuses, and document 01's numbers.
 
 use std::panic;
+
+pub const ARGUMENT: u8 = 1;
+pub const NO_ROOM: u8 = 2;
+pub const NAME_TAKEN: u8 = 3;
+pub const LOOP: u8 = 4;
+pub const BAD_RECORD: u8 = 5;
+pub const NO_ROW: u8 = 6;
+pub const CUT_SHORT: u8 = 7;
+pub const UNPAIRED: u8 = 8;
+pub const TOO_DEEP: u8 = 9;
+pub const ARITHMETIC: u8 = 10;
+pub const UNRESOLVED: u8 = 11;
 
 /// The answer line of a refusal.
 pub const REFUSED: &str = "refused";

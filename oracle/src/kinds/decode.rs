@@ -7,12 +7,8 @@
 
 use super::{opcodes, Answerer, Kind};
 use crate::fail;
-use crate::refusal::REFUSED;
+use crate::refusal::{CUT_SHORT, NO_ROW, REFUSED};
 use std::collections::BTreeSet;
-
-// Document 01's numbers: no row, and too few bytes.
-const NO_ROW: u8 = 6;
-const CUT_SHORT: u8 = 7;
 
 // How many opcodes the 6502 has.
 const OPCODES: usize = 151;

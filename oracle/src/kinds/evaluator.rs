@@ -222,7 +222,10 @@ fn name(modifier: AddressModifier) -> Located<Expression> {
 }
 
 // A factor as an expression.
-pub(super) fn factor(factor: ExpressionFactor, flags: ExpressionFactorFlags) -> Located<Expression> {
+pub(super) fn factor(
+    factor: ExpressionFactor,
+    flags: ExpressionFactorFlags,
+) -> Located<Expression> {
     let factor = Box::new(located(factor));
     located(Expression::Factor { factor, flags })
 }

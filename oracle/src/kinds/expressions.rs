@@ -25,7 +25,7 @@ mod scripts;
 use super::evaluator::{factor, located, symbol, BINARY as OPERATORS};
 use super::symbols::{id_of, index, word_at};
 use super::{number_at, Answerer, Kind};
-use crate::refusal::tried;
+use crate::refusal::{tried, ARGUMENT, ARITHMETIC, UNRESOLVED};
 use mos::codegen::{
     EvaluationResult, Evaluator, FunctionMap, ProgramCounter, Symbol, SymbolData, SymbolTable,
 };
@@ -43,11 +43,6 @@ const EVALUATE: u8 = 3;
 // The bytes of a question, and those of an expression in it.
 const WIDTH: usize = 32;
 const PART: usize = 20;
-
-// Document 01's numbers.
-const ARGUMENT: u8 = 1;
-const ARITHMETIC: u8 = 10;
-const UNRESOLVED: u8 = 11;
 
 /// A question.
 #[derive(Clone, Copy)]

@@ -22,6 +22,7 @@ mod scripts;
 
 use super::expressions::records::*;
 use super::{opcodes, short_at, Answerer, Kind};
+use crate::refusal::{ARGUMENT, BAD_RECORD, CUT_SHORT, NO_ROW, TOO_DEEP, UNPAIRED};
 use std::collections::BTreeSet;
 
 const BEGIN: u8 = 0;
@@ -32,14 +33,6 @@ const EXPRESSION_FORM: u8 = 3;
 // The bytes of a question, and those of a tape in it.
 const WIDTH: usize = 16;
 const PART: usize = 10;
-
-// Document 01's numbers.
-const ARGUMENT: u8 = 1;
-const BAD_RECORD: u8 = 5;
-const NO_ROW: u8 = 6;
-const CUT_SHORT: u8 = 7;
-const UNPAIRED: u8 = 8;
-const TOO_DEEP: u8 = 9;
 
 // The last mnemonic, mode and suffix, and the mode without an operand.
 const LAST_MNEMONIC: u8 = 55;

@@ -22,6 +22,7 @@
 mod scripts;
 
 use super::{number_at, Answerer, Kind};
+use crate::refusal::{ARGUMENT, LOOP, NAME_TAKEN, NO_ROOM};
 use mos::codegen::{SymbolIndex, SymbolTable};
 use mos::parser::{Identifier, IdentifierPath};
 
@@ -49,12 +50,6 @@ const LONGEST: usize = 4;
 
 // The id that leads to the parent.
 const SUPER: u16 = 0;
-
-// Document 01's numbers.
-const ARGUMENT: u8 = 1;
-const NO_ROOM: u8 = 2;
-const NAME_TAKEN: u8 = 3;
-const LOOP: u8 = 4;
 
 /// A question.
 #[derive(Clone, Copy)]

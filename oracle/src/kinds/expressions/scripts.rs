@@ -3,8 +3,9 @@
 
 use super::super::{any, one_of};
 use super::Question::{self, *};
-use super::{bytes_of, records::*, Kept, Outcome, ARITHMETIC, PART, UNRESOLVED};
+use super::{bytes_of, records::*, Kept, Outcome, PART};
 use crate::random::Random;
+use crate::refusal::{ARITHMETIC, UNRESOLVED};
 use itertools::iproduct;
 
 const ROOT: u16 = 0;
