@@ -110,7 +110,7 @@ pub fn walk(links: &[u16; WORDS], n: usize, s: u16, path: &[u16]) -> Reached
     let mut i = 0;
     while i < path.len() {
         let Reached::At(next) = step(links, n, at, path[i]) else {
-            return Reached::Nothing;
+            return Reached::Nothing; // the path breaks off
         };
         at = next;
         i += 1;
