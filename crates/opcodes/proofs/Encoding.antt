@@ -1,14 +1,15 @@
--- Laws of encoding: the bytes of a form, by its operand bytes; the bytes of a row, by its forms. Assumes nothing.
-use mathlib.Core.Path.{_≡_, refl, ap, _∙_}
+-- Laws of encoding: the bytes of a form, by its operand bytes; the bytes of a row, by its forms; how many they are at most.
+-- Assumes nothing.
+use mathlib.Core.Path.{_≡_, refl, ap, _∙_, subst}
 use mathlib.Core.Bool.{Bool, true, false, not}
-use mathlib.Core.List.{List, _∷_}
-use Prim.Native.Nat.{ℕ, zero, suc, _/_, _%_, _^_, _<_}
+use mathlib.Core.List.{List, [], _∷_}
+use Prim.Native.Nat.{ℕ, zero, suc, _/_, _%_, _^_, _<_, _≤_}
 use native.Mathlib.Omega.{arith}
 use native.Mathlib.Nat.{mod-lt, mod-eq-of-lt}
 use lib.IntN.{ℤ, pos, negsuc}
 use lib.ListN.{length}
 use borrow.Author.Tests.{not-true, not-false}
-use Rattle.refusals.specs.Answer.{Answer, Done, Refused, mapped}
+use Rattle.refusals.specs.Answer.{Answer, Done, Refused, mapped, pick}
 use Rattle.refusals.specs.Table.{argument}
 use Rattle.int64.specs.Num.{modZ}
 use Rattle.opcodes.specs.declared.Form.{Form}
@@ -18,6 +19,7 @@ use Rattle.opcodes.specs.Encode.{lengthOf, lowFirst, bytesOf, takes, tri
 use Rattle.opcodes.specs.Manual.{formsOf}
 use Rattle.opcodes.specs.Says.{listed}
 use Rattle.refusals.specs.Each.{Each}
+use Rattle.refusals.proofs.Never.{never}
 use Rattle.opcodes.proofs.Manual.{shortForm, short-forms}
 
 -- ---- the operand's bytes
@@ -81,3 +83,28 @@ module _ (m o s : ℕ) {r : Bool} (e : r ≡ inRange m o s) where
 
     pub short : Each shortForm (listed v)
     short = rw (← p, h) (short-forms m o s)
+
+-- ---- how long an encoding is
+
+short-pick : (t : Bool) (bs cs : List ℕ) (x : Answer (List ℕ)) → length cs ≤ 3 → (x ≡ Done bs → length bs ≤ 3)
+    → pick t (Done cs) x ≡ Done bs → length bs ≤ 3
+short-pick true bs cs x h k e = let p : cs ≡ bs = cc in subst (λ (l : List ℕ). length l ≤ 3) p h
+short-pick false bs cs x h k e = k e
+
+short-tried : (fs : List Form) → Each shortForm fs → (z : ℤ) (bs : List ℕ) → tried fs z ≡ Done bs → length bs ≤ 3
+short-tried [] a z bs e = never (cc)
+short-tried (f ∷ fs) a z bs e =
+    short-pick (takes f z) bs (bytesOf f z) (tried fs z) (omega (arith, length-bytesOf f z, a .0)) (short-tried fs (a .1) z bs) e
+
+short-encoded : (fs : List Form) → Each shortForm fs → (z : ℤ) (bs : List ℕ) → encodeForms fs z ≡ Done bs → length bs ≤ 3
+short-encoded [] a z bs e = never (cc)
+short-encoded (f ∷ fs) a z bs e = short-tried (f ∷ fs) a z bs e
+
+-- an instruction has at most three bytes
+pub encode-short : (m o s : ℕ) (z : ℤ) (bs : List ℕ) → encodeOf m o s z ≡ Done bs → length bs ≤ 3
+unfolding encodeOf
+encode-short m o s z bs e = go (inRange m o s) e
+  where
+    go : (t : Bool) → pick t (encodeForms (formsOf m o s) z) (Refused argument) ≡ Done bs → length bs ≤ 3
+    go true h = short-encoded (formsOf m o s) (short-forms m o s) z bs h
+    go false h = never (cc)

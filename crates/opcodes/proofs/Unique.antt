@@ -21,6 +21,7 @@ use Rattle.opcodes.specs.Decode.{Instruction}
 use Rattle.opcodes.specs.Says.{listed, saysEncoded, saysKnown, saysDecoded, saysDistance}
 use Rattle.opcodes.proofs.in_range.Reads as in-range
 use Rattle.opcodes.proofs.forms_of.Reads as forms-of
+use Rattle.opcodes.proofs.is_branch.Reads as is-branch
 use Rattle.opcodes.proofs.length.Reads as length
 use Rattle.opcodes.proofs.encode.Reads as encode
 use Rattle.opcodes.proofs.row_of.Reads as row-of
@@ -78,6 +79,9 @@ in-range-one k a x y e f p q = same p q
 
 pub forms-of-one : OneResult forms-of.Post
 forms-of-one k a x y e f p q = told-apart listed unlisted unlisted-listed p q
+
+pub is-branch-one : OneResult is-branch.Post
+is-branch-one k a x y e f p q = same p q
 
 pub length-one : OneResult length.Post
 length-one k a x y e f p q = same p q

@@ -2,7 +2,7 @@
 -- modes with their opcodes, in the order of its page. Then how document 01 writes a mode, and what a row of document 01 is.
 -- Assumes nothing: these are definitions.
 use Prim.Native.Nat.{ℕ, suc, _-_}
-use mathlib.Core.Bool.{Bool, true, false, _&&_}
+use mathlib.Core.Bool.{Bool, true, false, _&&_, _||_}
 use mathlib.Core.List.{List, [], _∷_, map}
 use lib.Dec.{eqb}
 use lib.ListN.{getD}
@@ -156,6 +156,31 @@ formsIn mode suffix ((k is opcode) ∷ es) =
 -- the forms of a mnemonic, mode and suffix, in the order tried; none where that is no row
 unfoldable pub formsOf : ℕ → ℕ → ℕ → List Form
 formsOf mnemonic mode suffix = formsIn mode suffix (getD pages mnemonic [])
+
+-- relative addressing: what branches have, and nothing else
+abbrev pub isRelative : Mode → Bool
+isRelative acc = false
+isRelative imm = false
+isRelative zp = false
+isRelative zpX = false
+isRelative zpY = false
+isRelative abs = false
+isRelative absX = false
+isRelative absY = false
+isRelative imp = false
+isRelative rel = true
+isRelative indX = false
+isRelative indY = false
+isRelative ind = false
+
+-- a page has a relative mode that is written so
+abbrev pub branchIn : ℕ → ℕ → List Entry → Bool
+branchIn mode suffix [] = false
+branchIn mode suffix ((k is opcode) ∷ es) = (isRelative k && isWritten k mode suffix) || branchIn mode suffix es
+
+-- whether a row is a branch
+unfoldable pub isBranch : ℕ → ℕ → ℕ → Bool
+isBranch mnemonic mode suffix = branchIn mode suffix (getD pages mnemonic [])
 
 abbrev pub row : ℕ → ℕ → ℕ → ℕ → Row
 row mnemonic mode suffix operand = record { mnemonic = mnemonic; mode = mode; suffix = suffix; operand = operand }

@@ -19,7 +19,7 @@ ghost use mathlib.Core.List.{_∷_, []};
 ghost use Prim.Native.Nat.{_<_};
 ghost use lib.IntN.{pos, _-ℤ_};
 ghost use Rattle.refusals.specs.Answer.{mapped};
-ghost use Rattle.opcodes.specs.Manual.{formsOf, rowsOf};
+ghost use Rattle.opcodes.specs.Manual.{formsOf, isBranch, rowsOf};
 ghost use Rattle.opcodes.specs.Encode.{lengthOf, takes, bytesOf, tried, inRange, encodeOf, code};
 ghost use Rattle.opcodes.specs.Decode.{decodeRow, decodeOf};
 ghost use Rattle.opcodes.specs.Branch.{byteOf, distanceOf};
@@ -84,6 +84,11 @@ const MODES: u8 = 5;
 
 const SUFFIXES: u8 = 3;
 
+// What an opcode's last five bits count to, and what they are in a branch.
+const FIVE_BITS: u8 = 32;
+
+const BRANCH_BITS: u8 = 16;
+
 // A branch's bytes; its offset counts from behind them.
 const BRANCH_LENGTH: i64 = 2;
 
@@ -127,6 +132,17 @@ pub fn forms_of(mnemonic: u8, mode: u8, suffix: u8) -> Forms
             opcode,
             operand: (shape - 1) as u8,
         }),
+    }
+}
+
+// Whether a row is a branch: the opcodes of branches, and no others, end in the bits 10000.
+pub fn is_branch(mnemonic: u8, mode: u8, suffix: u8) -> bool
+    ensures { λ r. ⌜ r ≡ isBranch mnemonic mode suffix ⌝ }
+{
+    match forms_of(mnemonic, mode, suffix) {
+        Forms::None => false,
+        Forms::One(form) => form.opcode % FIVE_BITS == BRANCH_BITS,
+        Forms::Two(_, _) => false,
     }
 }
 
