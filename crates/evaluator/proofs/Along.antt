@@ -3,9 +3,7 @@ use mathlib.Core.Bool.{Bool, true, false}
 use mathlib.Core.List.{List}
 use mathlib.Core.Option.{Option, none, some}
 use mathlib.Core.Path.{_≡_, refl, sym, ap, _∙_, subst}
-use Prim.Native.Nat.{ℕ, zero, suc, _+_, _-_, _≤_}
-use native.Mathlib.Nat.{add-zero, add-suc}
-use native.Mathlib.Omega.{arith}
+use Prim.Native.Nat.{ℕ, zero, suc, _+_}
 use lib.Dec.{eqb}
 use lib.IntN.{ℤ}
 use lib.ListN.{length, getD}
@@ -14,37 +12,17 @@ use Rattle.refusals.specs.Answer.{pick}
 use Rattle.refusals.specs.Table.{badRecord}
 use Rattle.tape.specs.Kinds.{number, currentPlace, flags, binary, isName}
 use Rattle.tape.specs.Record.{bytesAt}
+use Rattle.lookup.specs.Notes.{onward, NameAt}
+use Rattle.lookup.proofs.Notes.{onward-onward}
 use Rattle.evaluator.specs.Expression.{Value, Refuses, Meaning, named, innerAt, leaf, factorBy, expressionBy, expression}
-use Rattle.evaluator.specs.Steps.{onward, NameAt}
 
--- ---- records on
+-- ---- the record behind one that expressions follow
 
 abbrev end : Option (ℕ × ℕ) → ℕ
 end none = 0
 end (some p) = p .1
 
 module _ (tape : List ℕ) where
-  pub onward-onward : (k j at : ℕ) → onward tape k (onward tape j at) ≡ onward tape (k + j) at
-  unfolding onward
-  onward-onward k zero at = rw (add-zero k)
-  onward-onward k (suc j) at = rw (add-suc k j) (onward-onward k j (at + length (bytesAt tape at)))
-
-  onward-ahead : (k at : ℕ) → at ≤ onward tape k at
-  unfolding onward
-  onward-ahead zero at = omega arith
-  onward-ahead (suc k) at = omega (arith, onward-ahead k (at + length (bytesAt tape at)))
-
-  pub onward-later : (j k at : ℕ) → j ≤ k → onward tape j at ≤ onward tape k at
-  onward-later j k at h =
-      let e : k - j + j ≡ k = omega arith in
-      let same = onward-onward (k - j) j at ∙ ap (λ (i : ℕ). onward tape i at) e in
-      subst (λ (i : ℕ). onward tape j at ≤ i) same (onward-ahead (k - j) (onward tape j at))
-
-  -- the record that is passed over
-  pub onward-one : (k at : ℕ) → onward tape (suc k) at ≡ onward tape k at + length (bytesAt tape (onward tape k at))
-  unfolding onward
-  onward-one k at = let e : 1 + k ≡ suc k = omega arith in sym (onward-onward 1 k at ∙ ap (λ (i : ℕ). onward tape i at) e)
-
   inner-next : (at k : ℕ) {b next : ℕ} → innerAt tape at k ≡ some (b, next) → next ≡ onward tape 1 at
   unfolding innerAt onward
   inner-next at k {b} {next} e = go (eqb (getD (bytesAt tape at) 0 0) k) (getD (bytesAt tape at) 1 0) (at + length (bytesAt tape at)) e
@@ -60,10 +38,10 @@ module _ (tape : List ℕ) where
     Ends at i = (k : ℕ) × (i ≡ onward tape k at)
 
     ends-by : (at : ℕ) {next i : ℕ} → next ≡ onward tape 1 at → Ends next i → Ends at i
-    ends-by at e (k, p) = (k + 1, p ∙ ap (onward tape k) e ∙ onward-onward k 1 at)
+    ends-by at e (k, p) = (k + 1, p ∙ ap (onward tape k) e ∙ onward-onward tape k 1 at)
 
     ends-then : (at : ℕ) {i j : ℕ} → Ends at i → Ends i j → Ends at j
-    ends-then at (k, p) (l, q) = (l + k, q ∙ ap (onward tape l) p ∙ onward-onward l k at)
+    ends-then at (k, p) (l, q) = (l + k, q ∙ ap (onward tape l) p ∙ onward-onward tape l k at)
 
     leaf-ends : (at : ℕ) → Ends at (leaf tape numbers place at .0)
     unfolding leaf onward
@@ -98,7 +76,7 @@ module _ (tape : List ℕ) where
 
     agree-on : (at : ℕ) {i : ℕ} → Agree at → Ends f place at i → Agree i
     agree-on at a (j, p) k =
-        subst (λ (i : ℕ). NameAt tape i → f i ≡ g i) (sym (ap (onward tape k) p ∙ onward-onward k j at)) (a (k + j))
+        subst (λ (i : ℕ). NameAt tape i → f i ≡ g i) (sym (ap (onward tape k) p ∙ onward-onward tape k j at)) (a (k + j))
 
     leaf-agrees : (at : ℕ) → Agree at → leaf tape f place at ≡ leaf tape g place at
     unfolding leaf onward NameAt

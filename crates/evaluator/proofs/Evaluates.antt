@@ -26,13 +26,15 @@ use Rattle.tape.specs.Record.{bytesAt}
 use Rattle.tape.proofs.Records.{record-most}
 use Rattle.form.specs.Form.{maxTape, expressionForm, formOf}
 use Rattle.lookup.specs.Lookup.{pathOf, nodeOf}
+use Rattle.lookup.specs.Notes.{onward, noted, notesOf}
+use Rattle.lookup.proofs.Notes.{notes-resolved}
 use Rattle.lookup.proofs.Paths.{length-path}
 use Rattle.evaluator.specs.declared.Value as Val
 use Rattle.evaluator.specs.declared.Value.the-variants as came
 use Rattle.evaluator.specs.Expression.{Value, Meaning, expression}
 use Rattle.evaluator.specs.Says.{saysValue}
 use Rattle.evaluator.specs.Evaluate.{read, byNode, fromNodes, fromScope, expressionAt, answered, evaluateOf}
-use Rattle.evaluator.specs.Steps.{onward, noted, Resolved, valueFrom}
+use Rattle.evaluator.specs.Steps.{valueFrom}
 use Rattle.evaluator.proofs.Along.{expression-agrees}
 use Rattle.evaluator.proofs.Values.{back}
 
@@ -42,15 +44,19 @@ use Rattle.evaluator.proofs.Values.{back}
 abbrev foundBy : List ℕ → List ℕ → ℕ → ℕ → List Bool → List ℤ → ℕ → Option ℤ
 foundBy bytes links edges scope known number at = byNode known number (noted (nodeOf links edges scope (bytesAt bytes at)))
 
-pub value-noted : (bytes links nodes : List ℕ) (edges scope : ℕ) (known : List Bool) (number : List ℤ) {place : ℤ} → SFits w64 place
-    → Resolved bytes links edges scope nodes → {m : Meaning} → m ≡ expressionAt bytes nodes known number (back place) 0
+pub value-noted : (bytes links first : List ℕ) (edges scope : ℕ) (known : List Bool) (number : List ℤ) {place : ℤ} → SFits w64 place
+    → length bytes ≤ length first → {nodes : List ℕ} → nodes ≡ notesOf bytes links edges (λ i. scope) first
+    → {m : Meaning} → m ≡ expressionAt bytes nodes known number (back place) 0
     → m .1 ≡ valueFrom bytes links edges known number scope place
 unfolding expressionAt valueFrom fromNodes
-value-noted bytes links nodes edges scope known number {place} f resolved pm =
+value-noted bytes links first edges scope known number {place} f room {nodes} new pm =
+    let resolved = notes-resolved bytes links edges (λ i. scope) first room in
     ap (λ (m : Meaning). m .1)
     (pm
     ∙ ap (λ (z : ℤ). expressionAt bytes nodes known number z 0) (toZ-ofZ f)
-    ∙ expression-agrees bytes (fromNodes nodes known number) (foundBy bytes links edges scope known number) place 64 0
+    ∙ ap (λ (l : List ℕ). expressionAt bytes l known number place 0) new
+    ∙ expression-agrees bytes (fromNodes (notesOf bytes links edges (λ i. scope) first) known number)
+    (foundBy bytes links edges scope known number) place 64 0
     (λ k name. ap (byNode known number) (resolved k name)))
 
 pub value-handed : (bytes links : List ℕ) (edges scope : ℕ) (known : List Bool) (number : List ℤ) {place : ℤ} → SFits w64 place

@@ -2,7 +2,6 @@
 pub mod Values
 pub mod Meanings
 pub mod Along
-pub mod Resolving
 pub mod Evaluates
 pub mod Accepted
 pub mod Unique

@@ -10,7 +10,6 @@ use refusals::OutcomeAt;
 use refusals::TOO_DEEP;
 use refusals::UNRESOLVED;
 use symbols::Data;
-use symbols::Found;
 use symbols::NODES;
 use symbols::SymbolTable;
 use symbols::WORDS;
@@ -19,15 +18,16 @@ use tape::CURRENT_PLACE;
 use tape::FLAGS;
 use tape::NUMBER;
 ghost use mathlib.Core.Path.{_≡_};
-ghost use Prim.Native.Nat.{_≤_, _<_};
+ghost use Prim.Native.Nat.{_≤_};
 ghost use lib.ListN.{length};
 ghost use Rattle.int64.specs.Says.{says};
-ghost use Rattle.symbols.specs.Says.{saysData, saysFound};
+ghost use Rattle.symbols.specs.Says.{saysData};
 ghost use Rattle.form.specs.Form.{maxTape};
+ghost use Rattle.lookup.specs.Notes.{notesOf};
 ghost use Rattle.evaluator.specs.Expression as E;
 ghost use Rattle.evaluator.specs.Expression.{Refuses, valued, joined, changed, flagged, modified, named, innerAt, leaf, expression, factor};
 ghost use Rattle.evaluator.specs.Evaluate.{fromNodes, expressionAt, answered, evaluateOf};
-ghost use Rattle.evaluator.specs.Steps.{noted, noteOf, Resolved, valueFrom};
+ghost use Rattle.evaluator.specs.Steps.{valueFrom};
 ghost use Rattle.evaluator.specs.Says.{saysValue, saysStep, saysInner, saysEvaluated};
 
 // The longest expression whose names are noted in a small array.
@@ -405,8 +405,8 @@ fn resolve<'a>(
     scope: u16,
     nodes: &mut [u16],
 )
-    requires { ⌜ length (now bytes) ≤ length (now nodes) ⌝ }
-    ensures { λ _. ⌜ Resolved (now (bytes .entry)) (now (links .entry)) edges scope (now (nodes .exit)) ⌝ }
+    ensures { λ _. ⌜ now (nodes .exit)
+        ≡ notesOf (now (bytes .entry)) (now (links .entry)) edges (λ _. scope) (now (nodes .entry)) ⌝ }
 {
     let mut at: usize = 0;
     while at < bytes.len() {
@@ -414,35 +414,7 @@ fn resolve<'a>(
         if rec.len() == 0 {
             return;
         }
-        note(nodes, at, rec, links, edges, scope);
+        lookup::note(nodes, at, rec, links, edges, scope);
         at += rec.len();
-    }
-}
-
-// The node of a record that is a name, noted at its offset.
-fn note<'a>(
-    nodes: &mut [u16],
-    at: usize,
-    rec: &'a [u8],
-    links: &'a [u16; WORDS],
-    edges: usize,
-    scope: u16,
-)
-    requires { ⌜ at < length (now nodes) ⌝ }
-    ensures { λ _. ⌜ now (nodes .exit) ≡ noteOf (now (nodes .entry)) at (now (rec .entry)) (now (links .entry)) edges scope ⌝ }
-{
-    if tape::is_name(little::u8_at(rec, 0)) {
-        nodes[at] = plus_one(lookup::node_of(links, edges, scope, rec));
-    }
-}
-
-// One more than the node that is found; 0 where there is none that a table has.
-fn plus_one(found: Found) -> u16
-    ensures { λ r. ⌜ r ≡ noted (saysFound found) ⌝ }
-{
-    match found {
-        Found::At(node) => { if (node as usize) < NODES { node + 1 } else { 0 } }
-        Found::Nothing => 0,
-        Found::Refused(_) => 0,
     }
 }

@@ -1,3 +1,4 @@
--- Paths of name records; and that the call allows one answer.
+-- Paths of name records, and notes of names; and that each call allows one answer.
 pub mod Paths
+pub mod Notes
 pub mod Unique

@@ -1,8 +1,15 @@
--- The public call allows one answer: the law of `refusals`, applied to its own contract. Assumes nothing.
-use Rattle.refusals.proofs.Unique.{OneResult, told-apart}
+-- Each public call allows one answer: the law of `refusals`, applied to each call's own contract. Assumes nothing.
+use mathlib.Core.List.{List}
+use Prim.Native.Nat.{ℕ}
+use Rattle.refusals.proofs.Unique.{One, OneResult, same, told-apart}
 use Rattle.symbols.specs.Says.{saysFound}
 use Rattle.symbols.proofs.Unique.{backFound, back-found}
 use Rattle.lookup.proofs.node_of.Reads as node-of
+use Rattle.lookup.proofs.note.Reads as note
 
 pub node-of-one : OneResult node-of.Post
 node-of-one k a x y e f p q = told-apart saysFound backFound back-found p q
+
+-- its result is the memory that it leaves
+pub note-one : One {S = λ k. List ℕ} (λ k x e. e .0 .now) note.Post
+note-one k a x y e f p q = same p q

@@ -1,11 +1,13 @@
-// Names on a tape: the node that a name record reaches from the scope in which it is read.
+// Names on a tape: the node that a name record reaches from the scope in which it is read, and the notes of these nodes, by offset.
 use refusals::ARGUMENT;
 use symbols::Found;
+use symbols::NODES;
 use symbols::WORDS;
 ghost use mathlib.Core.Path.{_≡_};
 ghost use Prim.Native.Nat.{_-_, _/_};
 ghost use Rattle.symbols.specs.Says.{saysFound};
 ghost use Rattle.lookup.specs.Lookup.{nodeOf};
+ghost use Rattle.lookup.specs.Notes.{noted, noteOf};
 
 // How many ids a name has at most.
 const LONGEST: usize = 4;
@@ -25,6 +27,35 @@ pub fn node_of(links: &[u16; WORDS], edges: usize, scope: u16, name: &[u8]) -> F
         little::u16_at(name, 8),
     ];
     symbols::query_edges(links, edges, scope, &path[..n])
+}
+
+// The node of a record that is a name, noted at its offset, if there is room for it.
+pub fn note(
+    nodes: &mut [u16],
+    at: usize,
+    rec: &[u8],
+    links: &[u16; WORDS],
+    edges: usize,
+    scope: u16,
+)
+    ensures { λ _. ⌜ now (nodes .exit) ≡ noteOf (now (nodes .entry)) at (now (rec .entry)) (now (links .entry)) edges scope ⌝ }
+{
+    if at < nodes.len() {
+        if tape::is_name(little::u8_at(rec, 0)) {
+            nodes[at] = plus_one(node_of(links, edges, scope, rec));
+        }
+    }
+}
+
+// One more than the node that is found; 0 where there is none that a table has.
+fn plus_one(found: Found) -> u16
+    ensures { λ r. ⌜ r ≡ noted (saysFound found) ⌝ }
+{
+    match found {
+        Found::At(node) => { if (node as usize) < NODES { node + 1 } else { 0 } }
+        Found::Nothing => 0,
+        Found::Refused(_) => 0,
+    }
 }
 
 // How many ids a name record of this length has.

@@ -1,24 +1,22 @@
 -- Each turn passes one record over, and notes it if it is a name. Assumes nothing.
-use mathlib.Core.Path.{_≡_, refl, sym, ap, _∙_}
+use mathlib.Core.Path.{sym, ap, _∙_}
 use Prim.Native.Nat.{_-_}
 use native.Mathlib.Omega.{arith}
 use lib.ListN.{length}
+use Rattle.lookup.proofs.Notes.{Noting, noting-start, noting-on, noting-done, noting-past}
 use Rattle.evaluator.proofs.Meanings.{ends}
-use Rattle.evaluator.proofs.Resolving.{Going}
-use Rattle.evaluator.proofs.Resolving as resolving
 use borrow.Author.Needs.{needs}
 use Rattle.evaluator.proofs.resolve.Statement.{statement}
 use Rattle.evaluator.proofs.resolve.Tie as tie
 
 abbrev Inv-loop : tie.InvT-loop
-Inv-loop bytes links edges scope nodes₀ at₀ nodes at =
-    Going bytes links edges scope nodes at × (length nodes ≡ length nodes₀)
+Inv-loop bytes links edges scope nodes₀ at₀ nodes at = Noting bytes links edges (λ i. scope) nodes₀ nodes at
 
 abbrev μ-loop : tie.MeasureT-loop
 μ-loop bytes links edges scope nodes₀ at₀ nodes at = length bytes - at
 
 loop-holds : tie.Need-loop-holds Inv-loop μ-loop
-loop-holds c = (resolving.going-start _ _ _ _ _, refl)
+loop-holds c = noting-start _ _ _ _ _
 
 record-requires : tie.Need-record-requires Inv-loop μ-loop
 record-requires c κs = tt
@@ -30,13 +28,10 @@ returns : tie.Need-returns Inv-loop μ-loop
 returns c =
     let found = c .before in
     let kept = found .before .before .loop .inv in
-    resolving.going-done _ _ _ _ (kept .0) (ap length (sym (found .«record» .ensures)) ∙ c .if1 .taken)
+    noting-done _ _ _ _ _ kept (ap length (sym (found .«record» .ensures)) ∙ c .if1 .taken)
 
 note-requires : tie.Need-note-requires Inv-loop μ-loop
-note-requires c κs =
-    let turn = c .before .before .before in
-    let kept = turn .before .loop .inv in
-    omega (arith, turn .loop-test .taken, kept .1, turn .before .before .before .before .pre)
+note-requires c κs = search needs
 
 add-at : tie.Need-add-at Inv-loop μ-loop
 add-at c =
@@ -56,18 +51,14 @@ loop-again c =
     let some-bytes = note .before .before in
     let found = some-bytes .before in
     let turn = found .before in
-    let kept = turn .before .loop .inv in
-    let fits = turn .before .before .before .before .pre in (
-      resolving.going-on _ _ _ _ (kept .0) (omega (arith, turn .loop-test .taken, kept .1, fits))
-          (found .«record» .ensures) (note .note .ensures),
-      ap length (note .note .ensures) ∙ resolving.note-length _ _ _ _ _ _ ∙ kept .1,
-    )
+    noting-on _ _ _ _ _ (turn .before .loop .inv) (turn .loop-test .taken)
+    (found .«record» .ensures) (some-bytes .if1 .left) (note .note .ensures)
 
 same-length-2 : tie.Need-same-length-2 Inv-loop μ-loop
 same-length-2 c = search needs
 
 returns-2 : tie.Need-returns-2 Inv-loop μ-loop
-returns-2 c = resolving.going-done _ _ _ _ (c .before .loop .inv .0) (resolving.none-past _ _ (c .loop-test .left))
+returns-2 c = noting-past _ _ _ _ _ (c .before .loop .inv) (c .loop-test .left)
 
 pub resolve-spec : {M : Type 1} → statement M
 resolve-spec =

@@ -17,7 +17,7 @@ returns : tie.Need-returns
 returns c =
     let resolved = c .before .before .before .before in
     let at-entry = resolved .before .before .before .before in
-    evaluates.value-noted _ _ _ _ _ _ _ (at-entry .fits .place) (resolved .resolve .ensures) (c .expression-at .ensures)
+    evaluates.value-noted _ _ _ _ _ _ _ (at-entry .fits .place) (at-entry .pre) (resolved .resolve .ensures) (c .expression-at .ensures)
 
 pub value-with-spec : {M : Type 1} → statement M
 value-with-spec = tie.close (tie.spec resolve-requires expression-at-requires same-length returns)

@@ -1,9 +1,9 @@
--- A name is noted; at any other record nothing changes. Assumes nothing.
+-- A name is noted where there is room; else nothing changes. Assumes nothing.
 use mathlib.Core.Path.{sym, _∙_}
-use Rattle.evaluator.proofs.Resolving as resolving
+use Rattle.lookup.proofs.Notes.{note-name, note-other, note-past}
 use borrow.Author.Needs.{needs}
-use Rattle.evaluator.proofs.note.Statement.{statement}
-use Rattle.evaluator.proofs.note.Tie as tie
+use Rattle.lookup.proofs.note.Statement.{statement}
+use Rattle.lookup.proofs.note.Tie as tie
 
 u8-at-requires : tie.Need-u8-at-requires
 u8-at-requires c κs = search needs
@@ -31,14 +31,17 @@ returns c =
     let reached = c .before in
     let tested = reached .before in
     let asked = tested .before in
-    let is = sym (asked .is-name .ensures) ∙ tested .if1 .taken in
-    resolving.note-name _ _ _ _ _ _ (asked .before .u8-at .ensures) is (reached .node-of .ensures) (c .plus-one .ensures)
+    let is = sym (asked .is-name .ensures) ∙ tested .if2 .taken in
+    note-name _ _ _ _ _ _ (asked .before .u8-at .ensures) is (reached .node-of .ensures) (c .plus-one .ensures)
 
 returns-2 : tie.Need-returns-2
 returns-2 c =
     let asked = c .before in
-    let is = sym (asked .is-name .ensures) ∙ c .if1 .left in
-    resolving.note-other _ _ _ _ _ _ (asked .before .u8-at .ensures) is
+    let is = sym (asked .is-name .ensures) ∙ c .if2 .left in
+    note-other _ _ _ _ _ _ (asked .before .u8-at .ensures) is
+
+returns-3 : tie.Need-returns-3
+returns-3 c = note-past _ _ _ _ _ _ (c .if1 .left)
 
 pub note-spec : {M : Type 1} → statement M
 note-spec =
@@ -52,4 +55,5 @@ note-spec =
     slice-write-nodes
     same-length
     returns
-    returns-2)
+    returns-2
+    returns-3)

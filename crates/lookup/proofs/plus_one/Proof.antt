@@ -1,8 +1,8 @@
 -- Case by case. Assumes nothing.
-use Rattle.evaluator.proofs.Resolving as resolving
+use Rattle.lookup.proofs.Notes.{noted-node, noted-beyond}
 use borrow.Author.Needs.{needs}
-use Rattle.evaluator.proofs.plus_one.Statement.{statement}
-use Rattle.evaluator.proofs.plus_one.Tie as tie
+use Rattle.lookup.proofs.plus_one.Statement.{statement}
+use Rattle.lookup.proofs.plus_one.Tie as tie
 
 enum-known-found : tie.Need-enum-known-found
 enum-known-found c = search needs
@@ -20,10 +20,10 @@ enum-told-2 : tie.Need-enum-told-2
 enum-told-2 c = search needs
 
 returns : tie.Need-returns
-returns c = resolving.noted-node _ (c .before .before .found .given .1) (c .if1 .taken)
+returns c = noted-node _ (c .before .before .found .given .1) (c .if1 .taken)
 
 returns-2 : tie.Need-returns-2
-returns-2 c = resolving.noted-beyond _ (c .before .before .found .given .1) (c .if1 .left)
+returns-2 c = noted-beyond _ (c .before .before .found .given .1) (c .if1 .left)
 
 returns-3 : tie.Need-returns-3
 returns-3 c = search needs
