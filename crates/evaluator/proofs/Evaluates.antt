@@ -7,15 +7,13 @@ use mathlib.Core.Path.{_≡_, refl, sym, ap, _∙_}
 use Prim.Native.Nat.{ℕ, _≤_, _<_}
 use native.Mathlib.Numerals.{add-one}
 use native.Mathlib.Omega.{arith}
-use lib.Dec.{ltb}
 use lib.IntN.{ℤ}
 use lib.ListN.{length}
-use borrow.Author.Tests.{le-leb, lt-ltb, ltb-false}
+use borrow.Author.Tests.{le-leb, lt-ltb}
 use mir.Facts.{toZ-ofZ}
 use mir.Syntax.{w64}
 use mir.Val.{SFits}
-use Rattle.refusals.proofs.Never.{never}
-use Rattle.refusals.specs.Answer.{Answer, Done, pick}
+use Rattle.refusals.specs.Answer.{Answer, Done}
 use Rattle.refusals.specs.AnswerAt.{AnswerAt, Fine, Fault}
 use Rattle.refusals.specs.Table.{argument, unresolved}
 use Rattle.symbols.specs.declared.SymbolTable.{SymbolTable}
@@ -24,7 +22,7 @@ use Rattle.symbols.specs.Symbols.{edgesOf, isNode, queryEdges}
 use Rattle.symbols.proofs.Kept.{node-is, query-node}
 use Rattle.tape.specs.Record.{bytesAt}
 use Rattle.tape.proofs.Records.{record-most}
-use Rattle.form.specs.Form.{maxTape, expressionForm, formOf}
+use Rattle.form.specs.Form.{expressionForm}
 use Rattle.lookup.specs.Lookup.{pathOf, nodeOf}
 use Rattle.lookup.specs.Notes.{onward, noted, notesOf}
 use Rattle.lookup.proofs.Notes.{notes-resolved}
@@ -108,15 +106,6 @@ module _ (t : SymbolTable) (scope : ℕ) (h : isNode t scope ≡ true) (bytes : 
       (λ k name. names-agree (onward bytes k 0)))
 
 -- ---- the call
-
-pub form-short : (bytes : List ℕ) → Fine tt ≡ expressionForm bytes → length bytes ≤ maxTape
-unfolding formOf
-form-short bytes e = go (ltb maxTape (length bytes)) refl _ e
-  where
-    go : (b : Bool) → ltb maxTape (length bytes) ≡ b → (a : AnswerAt (Unit {0})) → Fine tt ≡ pick b (Fault argument 0) a
-        → length bytes ≤ maxTape
-    go true p a e = never (cc)
-    go false p a e = ltb-false _ _ p
 
 module _ (bytes : List ℕ) (t : SymbolTable) (scope : ℕ) (place : ℤ) where
   pub evaluate-no-node : isNode t scope ≡ false → Fault argument 0 ≡ evaluateOf bytes t scope place

@@ -16,7 +16,7 @@ use Rattle.evaluator.proofs.evaluate.Reads as evaluate
 
 -- ---- of each answer, the case that says this
 
-abbrev backValue : E.Value → Value
+abbrev pub backValue : E.Value → Value
 backValue (E.Number z) = came.Number z
 backValue (E.Unresolved at) = came.Unresolved at
 backValue (E.Refuses n at) = came.Refused n at
@@ -24,7 +24,7 @@ backValue (E.Refuses n at) = came.Refused n at
 abbrev backStep : Meaning → Step
 backStep m = record { at = m .0; value = backValue (m .1) }
 
-back-value : (x : Value) → backValue (saysValue x) ≡ x
+pub back-value : (x : Value) → backValue (saysValue x) ≡ x
 back-value (came.Number z) = refl
 back-value (came.Unresolved at) = refl
 back-value (came.Refused n at) = refl

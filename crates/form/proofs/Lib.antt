@@ -5,4 +5,5 @@ pub mod Reading
 pub mod Sound
 pub mod Loop
 pub mod Statements
+pub mod Said
 pub mod Unique

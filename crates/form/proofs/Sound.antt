@@ -7,6 +7,7 @@ use native.Mathlib.Decide.{decLt}
 use native.Mathlib.Omega.{arith}
 use lib.Dec.{eqb, ltb}
 use lib.ListN.{length, getD, drop, drop-of-length-le}
+use borrow.Author.Tests.{ltb-false}
 use Rattle.refusals.proofs.Never.{never}
 use Rattle.refusals.specs.Answer.{pick}
 use Rattle.refusals.specs.AnswerAt.{AnswerAt, Fine, Fault}
@@ -33,6 +34,16 @@ form-sound alone bytes e = go (ltb maxTape (length bytes)) e
     go : (t : Bool) {x : AnswerAt (Unit {0})} → pick t (Fault argument 0) x ≡ Fine tt → x ≡ Fine tt
     go true e = never (cc)
     go false e = e
+
+-- which is no longer than a tape may be
+pub form-short : (alone : Bool) (bytes : List ℕ) → formOf alone bytes ≡ Fine tt → length bytes ≤ maxTape
+unfolding formOf
+form-short alone bytes e = go (ltb maxTape (length bytes)) refl _ e
+  where
+    go : (t : Bool) → ltb maxTape (length bytes) ≡ t → (x : AnswerAt (Unit {0})) → pick t (Fault argument 0) x ≡ Fine tt
+        → length bytes ≤ maxTape
+    go true p x e = never (cc)
+    go false p x e = ltb-false _ _ p
 
 pub also-fine : (alone : Bool) {w v : Walk Pending} → w ≡ v → closed alone w ≡ Fine tt → closed alone v ≡ Fine tt
 also-fine alone e fine = sym (ap (closed alone) e) ∙ fine

@@ -1,31 +1,66 @@
--- The statements from an offset on, one record at a time; and that the reading of a sound tape, record by record, is the walk
--- over its statements. Assumes nothing.
-use mathlib.Core.Bool.{Bool, true, false}
+-- What an expression follows; the statements from an offset on, one record at a time; and that the reading of a sound tape, record
+-- by record, is the walk over its statements. Assumes nothing.
+use mathlib.Core.Bool.{Bool, true, false, not, _||_}
 use mathlib.Core.List.{List, [], _∷_}
-use mathlib.Core.Path.{_≡_, refl, sym, _∙_}
+use mathlib.Core.Path.{_≡_, refl, sym, ap, _∙_}
 use Prim.Native.Nat.{ℕ, zero, suc, _+_, _-_, _≤_, _<_}
 use native.Mathlib.Omega.{arith}
 use lib.Dec.{eqb, ltb}
 use lib.ListN.{length, getD, drop, drop-of-length-le}
-use borrow.Author.Tests.{ne-eqb, eqb-true, eqb-false, ltb-false}
+use borrow.Author.Tests.{eq-eqb, ne-eqb, eqb-true, eqb-false, ltb-false}
 use Rattle.refusals.specs.Answer.{Answer, Done, Refused, pick}
 use Rattle.refusals.specs.AnswerAt.{Fine}
 use Rattle.refusals.specs.Table.{cutShort}
 use Rattle.refusals.proofs.Never.{never}
-use Rattle.tape.specs.Kinds.{end}
+use Rattle.tape.specs.Kinds.{instruction, openScope, closeScope, label, constant, setPlace, byte, word, end}
 use Rattle.tape.specs.Record.{bytesAt}
 use Rattle.tape.specs.Walk.{Go, Stop, Walk, Between, Ended, Bad, land, run}
 use Rattle.tape.proofs.Records.{record-past, record-end}
 use Rattle.tape.proofs.Walks.{run-bad, walk-record}
-use Rattle.form.specs.Form.{Pending, top, begin, after, closed, tapeForm}
-use Rattle.form.specs.Statements.{Statement, statementOf, isLast, isInner, statementsFrom, statementsAt, statements, overStatements, outOf, readStatement, walkedTo}
+use Rattle.little.specs.Little.{numberAt}
+use Rattle.form.specs.Form.{Pending, top, begin, after, closed, tapeForm, hasExpression}
+use Rattle.form.specs.Statements.{Open, Close, Label, Constant, SetPlace, Byte, Word, Screen, whatOf, isFollowed, Statement, statementOf, isLast, isInner, statementsFrom, statementsAt, statements, overStatements, outOf, readStatement, walkedTo}
 use Rattle.form.proofs.Reading.{head-known, read-behind}
 use Rattle.form.proofs.Sound.{Sound, form-sound, also-fine, sound-inside, sound-head, sound-whole, sound-stop, sound-go}
+
+-- ---- whether an expression follows a record r of kind k
+
+module _ (r : List ℕ) (k : ℕ) (is : k ≡ getD r 0 0) where
+  -- an instruction: by its mode
+  pub followed-instruction : k ≡ instruction → {h : Bool} → h ≡ not (eqb (getD r 2 0) 0) → h ≡ isFollowed (whatOf r)
+  unfolding whatOf
+  followed-instruction e h = h ∙ rw (← is, eq-eqb k instruction e)
+
+  -- any other: the kinds that come before those with an expression have none
+  pub followed-other : (k ≡ instruction → ⊥) → {h : Bool} → h ≡ hasExpression k → h ≡ isFollowed (whatOf r)
+  unfolding whatOf hasExpression
+  followed-other e h =
+      h
+      ∙ go (eqb k openScope) (eqb k closeScope) (eqb k label) (eqb k constant) (eqb k setPlace) (eqb k byte) (eqb k word)
+      (λ t. alone openScope (eqb-true k _ t) refl) (λ t. alone closeScope (eqb-true k _ t) refl) (λ t. alone label (eqb-true k _ t) refl)
+      ∙ rw (← is, ne-eqb k instruction e)
+    where
+      alone : (n : ℕ) → k ≡ n → hasExpression n ≡ false → hasExpression k ≡ false
+      alone n e none = ap hasExpression e ∙ none
+
+      go : (a b c d e f g : Bool) → (a ≡ true → (d || e || f || g) ≡ false) → (b ≡ true → (d || e || f || g) ≡ false)
+          → (c ≡ true → (d || e || f || g) ≡ false)
+          → (d || e || f || g)
+          ≡ isFollowed (pick a (Open (numberAt 2 r 1)) (pick b Close (pick c (Label (numberAt 2 r 1))
+          (pick d (Constant (numberAt 2 r 1)) (pick e SetPlace (pick f Byte (pick g Word (Screen (getD r 1 0)))))))))
+      go true b c d e f g x y z = x refl
+      go false true c d e f g x y z = y refl
+      go false false true d e f g x y z = z refl
+      go false false false true e f g x y z = refl
+      go false false false false true f g x y z = refl
+      go false false false false false true g x y z = refl
+      go false false false false false false true x y z = refl
+      go false false false false false false false x y z = refl
 
 -- ---- the statements from an offset on
 
 -- a record that is not the last one has bytes
-not-empty : (r : List ℕ) → isLast r ≡ false → 0 < length r
+pub not-empty : (r : List ℕ) → isLast r ≡ false → 0 < length r
 not-empty [] e = never (cc)
 not-empty (k ∷ r) e = omega arith
 
@@ -94,7 +129,7 @@ module _ (tape : List ℕ) (at : ℕ) where
     whole = sound-whole false tape at p refl sound
 
     -- behind the end record nothing stands
-    sound-end : eqb (getD here 0 0) end ≡ true → next ≡ length tape
+    pub sound-end : eqb (getD here 0 0) end ≡ true → next ≡ length tape
     sound-end e =
         let stops = sound-stop false tape at p refl sound (eqb-true _ end e) in
         go (ltb next (length tape)) refl (also-fine false (stops ∙ read-behind false tape next p) sound)
@@ -108,11 +143,11 @@ module _ (tape : List ℕ) (at : ℕ) where
         go false e fine = omega (arith, ltb-false next (length tape) e, within)
 
     -- behind any other record the tape is sound
-    sound-on : eqb (getD here 0 0) end ≡ false → Sound false tape (after p here) next
+    pub sound-on : eqb (getD here 0 0) end ≡ false → Sound false tape (after p here) next
     sound-on e = also-fine false (sound-go false tape at p refl sound (eqb-false _ end e)) sound
 
     -- and only the end record is the last one
-    sound-last : {t : Bool} → eqb (getD here 0 0) end ≡ t → isLast here ≡ t
+    pub sound-last : {t : Bool} → eqb (getD here 0 0) end ≡ t → isLast here ≡ t
     sound-last e = rw (ne-eqb (length here) 0 whole, e)
 
 -- ---- the reading of a sound tape is the walk over its statements

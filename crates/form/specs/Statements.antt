@@ -1,7 +1,7 @@
 -- The statements of a tape: the records outside of expressions, in tape order, up to the end record. Assumes nothing: these are
 -- definitions.
 use Prim.Native.Nat.{ℕ, zero, suc, _+_, _-_}
-use mathlib.Core.Bool.{Bool, _||_}
+use mathlib.Core.Bool.{Bool, true, false, not, _||_}
 use mathlib.Core.List.{List, [], _∷_}
 use lib.Dec.{eqb, ltb}
 use lib.ListN.{length, getD}
@@ -38,6 +38,18 @@ whatOf r =
     (pick (eqb k byte) Byte
     (pick (eqb k word) Word
     (Screen (getD r 1 0)))))))))
+
+-- whether an expression follows it: "expression unless Implied"
+abbrev pub isFollowed : What → Bool
+isFollowed (Instruction mnemonic mode suffix) = not (eqb mode 0)
+isFollowed (Open id) = false
+isFollowed Close = false
+isFollowed (Label id) = false
+isFollowed (Constant id) = true
+isFollowed SetPlace = true
+isFollowed Byte = true
+isFollowed Word = true
+isFollowed (Screen petscii) = false
 
 -- its offset, what it says, and where its expression starts
 pub record Statement : Type 0 where

@@ -30,6 +30,7 @@ ghost use Rattle.refusals.specs.AnswerAt.{Fine, Fault};
 ghost use Rattle.refusals.specs.Says.{saysAt};
 ghost use Rattle.refusals.specs.Table.{cutShort};
 ghost use Rattle.form.specs.Form.{maxTape, pending, top, begin, expressionFault, outsideFault, headFault, rangeFault, instructionFault, idFault, declares, bodyFault, scopeFault, faultOf, hasExpression, followed, scopesAfter, after, stepOf, formOf, tapeForm, expressionForm};
+ghost use Rattle.form.specs.Statements.{isLast, isInner, isFollowed, whatOf};
 ghost use Rattle.form.specs.Steps.{places, Fit, Ready, view, saysStepped};
 
 // How many bytes a tape has at most.
@@ -37,6 +38,9 @@ pub const LONGEST: usize = 65536;
 
 // The deepest that an expression record may stand.
 pub const DEEPEST: u8 = 64;
+
+// The mode of an instruction without an operand.
+const IMPLIED: u8 = 0;
 
 // How many depths the state has room for.
 const PLACES: usize = 66;
@@ -59,6 +63,34 @@ enum Next {
 struct Stepped {
     next: Next,
     state: State,
+}
+
+// Whether no statement stands behind a record: it is the end record, or there is none.
+pub fn is_last(rec: &[u8]) -> bool
+    ensures { λ r. ⌜ r ≡ isLast (now (rec .entry)) ⌝ }
+{
+    if rec.len() == 0 {
+        return true;
+    }
+    rec[0] == END
+}
+
+// Whether a record belongs to an expression.
+pub fn is_inner(rec: &[u8]) -> bool
+    ensures { λ r. ⌜ r ≡ isInner (now (rec .entry)) ⌝ }
+{
+    little::u8_at(rec, 0) < INSTRUCTION
+}
+
+// Whether an expression follows a statement.
+pub fn is_followed(rec: &[u8]) -> bool
+    ensures { λ r. ⌜ r ≡ isFollowed (whatOf (now (rec .entry))) ⌝ }
+{
+    let kind = little::u8_at(rec, 0);
+    if kind == INSTRUCTION {
+        return little::u8_at(rec, 2) != IMPLIED;
+    }
+    has_expression(kind)
 }
 
 // The form of a whole tape.
@@ -296,7 +328,7 @@ fn body_fault(rec: &[u8]) -> u8
 }
 
 // Whether a record of this kind declares a name.
-fn declares(kind: u8) -> bool
+pub fn declares(kind: u8) -> bool
     ensures { λ r. ⌜ r ≡ declares kind ⌝ }
 {
     if kind == OPEN_SCOPE {
@@ -344,7 +376,7 @@ fn followers(kind: u8, mode: u8) -> usize
         return 1;
     }
     if kind == INSTRUCTION {
-        return if mode == 0 { 0 } else { 1 };
+        return if mode == IMPLIED { 0 } else { 1 };
     }
     if has_expression(kind) { 1 } else { 0 }
 }

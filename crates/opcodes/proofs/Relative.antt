@@ -49,7 +49,7 @@ none m o s e = ap told (sym e) ∙ sym (no-branch o s (getD pages m []) (sym e))
 
 -- ---- any row
 
-by-range : (m o s : ℕ) (t : Bool) → t ≡ inRange m o s → toldOf m o s ≡ isBranch m o s
+pub by-range : (m o s : ℕ) (t : Bool) → t ≡ inRange m o s → toldOf m o s ≡ isBranch m o s
 by-range m o s true e = at-triple toldOf isBranch tells m o s (ranges m o s e refl)
 by-range m o s false e = none m o s (beyond m o s e refl)
 

@@ -23,6 +23,7 @@ use Rattle.opcodes.proofs.in_range.Reads as in-range
 use Rattle.opcodes.proofs.forms_of.Reads as forms-of
 use Rattle.opcodes.proofs.is_branch.Reads as is-branch
 use Rattle.opcodes.proofs.length.Reads as length
+use Rattle.opcodes.proofs.takes.Reads as takes
 use Rattle.opcodes.proofs.encode.Reads as encode
 use Rattle.opcodes.proofs.row_of.Reads as row-of
 use Rattle.opcodes.proofs.decode.Reads as decode
@@ -85,6 +86,9 @@ is-branch-one k a x y e f p q = same p q
 
 pub length-one : OneResult length.Post
 length-one k a x y e f p q = same p q
+
+pub takes-one : OneResult takes.Post
+takes-one k a x y e f p q = same p q
 
 pub encode-one : OneResult encode.Post
 encode-one k a x y e f p q = told-apart saysEncoded asEncoded asEncoded-says p q

@@ -154,7 +154,7 @@ pub fn length(form: Form) -> usize
 }
 
 // Whether a form takes an operand: the one-byte form only one below 256.
-fn takes(form: Form, operand: i64) -> bool
+pub fn takes(form: Form, operand: i64) -> bool
     ensures { λ r. ⌜ r ≡ takes form operand ⌝ }
 {
     if form.operand == 1 {

@@ -59,31 +59,32 @@ module _ (m : List ℕ) (at : ℕ) where
         ∙ ap (λ (l : List ℕ). l ++ drop (n + length ys) m) (append-assoc (take at m) xs ys)
         ∙ ap (λ (k : ℕ). take at m ++ (xs ++ ys) ++ drop k m) e
 
--- ---- one number at every place, written from the first on
+-- ---- the same at every place, written from the first on
 
--- the first i places hold x, the rest is as it was
-pub filled : ℕ → List ℕ → ℕ → List ℕ
-filled x xs i = replicate i x ++ drop i xs
+module _ {A : Type 0} where
+  -- the first i places hold x, the rest is as it was
+  pub filled : A → List A → ℕ → List A
+  filled x xs i = replicate i x ++ drop i xs
 
-pub filled-none : (x : ℕ) (xs : List ℕ) → xs ≡ filled x xs 0
-unfolding filled
-filled-none x [] = refl
-filled-none x (y ∷ ys) = refl
+  pub filled-none : (x : A) (xs : List A) → xs ≡ filled x xs 0
+  unfolding filled
+  filled-none x [] = refl
+  filled-none x (y ∷ ys) = refl
 
-filled-suc : (x : ℕ) (xs : List ℕ) (i : ℕ) → i < length xs → set (filled x xs i) i x ≡ filled x xs (suc i)
-unfolding filled
-filled-suc x [] i h = absurd (omega arith)
-filled-suc x (y ∷ ys) zero h = refl
-filled-suc x (y ∷ ys) (suc i) h = ap (λ (l : List ℕ). x ∷ l) (filled-suc x ys i (omega arith))
+  filled-suc : (x : A) (xs : List A) (i : ℕ) → i < length xs → set (filled x xs i) i x ≡ filled x xs (suc i)
+  unfolding filled
+  filled-suc x [] i h = absurd (omega arith)
+  filled-suc x (y ∷ ys) zero h = refl
+  filled-suc x (y ∷ ys) (suc i) h = ap (λ (l : List A). x ∷ l) (filled-suc x ys i (omega arith))
 
-filled-all : (x : ℕ) (xs : List ℕ) → filled x xs (length xs) ≡ replicate (length xs) x
-unfolding filled
-filled-all x [] = refl
-filled-all x (y ∷ ys) = ap (λ (l : List ℕ). x ∷ l) (filled-all x ys)
+  filled-all : (x : A) (xs : List A) → filled x xs (length xs) ≡ replicate (length xs) x
+  unfolding filled
+  filled-all x [] = refl
+  filled-all x (y ∷ ys) = ap (λ (l : List A). x ∷ l) (filled-all x ys)
 
-module _ (x : ℕ) (before now : List ℕ) (i : ℕ) (e : now ≡ filled x before i) where
-  pub filled-more : i < length before → set now i x ≡ filled x before (i + 1)
-  filled-more h = ap (λ (l : List ℕ). set l i x) e ∙ filled-suc x before i h ∙ ap (filled x before) (sym (add-one i))
+  module _ (x : A) (before now : List A) (i : ℕ) (e : now ≡ filled x before i) where
+    pub filled-more : i < length before → set now i x ≡ filled x before (i + 1)
+    filled-more h = ap (λ (l : List A). set l i x) e ∙ filled-suc x before i h ∙ ap (filled x before) (sym (add-one i))
 
-  pub filled-whole : i ≤ length before → length before ≤ i → now ≡ replicate (length before) x
-  filled-whole h g = e ∙ ap (filled x before) (le-antisymm h g) ∙ filled-all x before
+    pub filled-whole : i ≤ length before → length before ≤ i → now ≡ replicate (length before) x
+    filled-whole h g = e ∙ ap (filled x before) (le-antisymm h g) ∙ filled-all x before

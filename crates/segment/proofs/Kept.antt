@@ -1,7 +1,7 @@
 -- What a build that begins with `new` may rely on: a pen that a call gives is sound, and an image keeps its length.
 -- Assumes nothing.
 use mathlib.Core.Bool.{Bool, true, false, _&&_}
-use mathlib.Core.Path.{_≡_, refl, _∙_, subst}
+use mathlib.Core.Path.{_≡_, refl, sym, ap, _∙_, subst}
 use mathlib.Core.List.{List}
 use Prim.Native.Nat.{ℕ, _+_, _≤_}
 use native.Mathlib.Omega.{arith}
@@ -55,8 +55,15 @@ set-pc-sound p at e =
     subst (λ (p : Pen). sound p ≡ true) (done-value (b .1))
     (sound-is _ (record { place = leb-true _ _ (b .0); initial = s .initial; target = s .target; start = s .start; end = s .end }))
 
+-- and is there
+pub set-pc-place : (p : Pen) (at : ℕ) {q : Pen} → setPc p at ≡ Done q → q .place ≡ at
+unfolding setPc ofPen
+set-pc-place p at e =
+    let a = done-passed (sound p) _ argument e in
+    sym (ap (λ (x : Pen). x .place) (done-value (done-passed (leb at size) _ argument (a .1) .1)))
+
 -- what an accepted emit had, and what it gives
-emit-has : (p : Pen) (image bytes : List ℕ) {q : Pen} → emit p image bytes ≡ Done q
+pub emit-has : (p : Pen) (image bytes : List ℕ) {q : Pen} → emit p image bytes ≡ Done q
     → (length image ≡ 65536) × Sound p × (p .place + length bytes ≤ 65536) × (widened p (length bytes) ≡ q)
 unfolding emit ofBoth
 emit-has p image bytes e =

@@ -61,14 +61,14 @@ module _ (links : List ℕ) (k s x n : ℕ) (size : length links ≡ 6144) (free
   length-before : length (take (3 * k) links) ≡ 3 * k
   length-before = length-take-le (3 * k) links (omega arith)
 
-  word-before : (i : ℕ) → i < 3 * k → getD (over links (3 * k) (s ∷ x ∷ n ∷ [])) i 0 ≡ getD links i 0
+  pub word-before : (i : ℕ) → i < 3 * k → getD (over links (3 * k) (s ∷ x ∷ n ∷ [])) i 0 ≡ getD links i 0
   unfolding over
   word-before i l =
       ap (λ (l : List ℕ). getD l i 0) (append-assoc (take (3 * k) links) (s ∷ x ∷ n ∷ []) (drop (3 * k + 3) links))
       ∙ List·getD-append (take (3 * k) links) (s ∷ x ∷ n ∷ drop (3 * k + 3) links) 0 i (omega (arith, length-before))
       ∙ getD-take (3 * k) links i 0 l
 
-  word-in : (i : ℕ) → getD (over links (3 * k) (s ∷ x ∷ n ∷ [])) (3 * k + i) 0 ≡ getD (s ∷ x ∷ n ∷ drop (3 * k + 3) links) i 0
+  pub word-in : (i : ℕ) → getD (over links (3 * k) (s ∷ x ∷ n ∷ [])) (3 * k + i) 0 ≡ getD (s ∷ x ∷ n ∷ drop (3 * k + 3) links) i 0
   unfolding over
   word-in i =
       ap (λ (l : List ℕ). getD l (3 * k + i) 0) (append-assoc (take (3 * k) links) (s ∷ x ∷ n ∷ []) (drop (3 * k + 3) links))

@@ -413,7 +413,7 @@ fn number_at<'a>(known: &'a [bool; NODES], number: &'a [i64; NODES], nx: u16) ->
 }
 
 // Whether there is a number.
-fn is_known(value: Data) -> bool
+pub fn is_known(value: Data) -> bool
     ensures { λ r. ⌜ r ≡ isKnown (saysData value) ⌝ }
 {
     match value {
@@ -423,7 +423,7 @@ fn is_known(value: Data) -> bool
 }
 
 // The number that there is, else 0.
-fn number_or_0(value: Data) -> i64
+pub fn number_or_0(value: Data) -> i64
     ensures { λ r. ⌜ r ≡ numberOr0 (saysData value) ⌝ }
 {
     match value {

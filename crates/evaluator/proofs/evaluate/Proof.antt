@@ -1,7 +1,9 @@
 -- Table and scope, then the form, then the value. Assumes nothing.
+use mathlib.Core.Bool.{true}
 use mathlib.Core.Path.{sym, ap, _∙_}
 use Rattle.refusals.proofs.Pick.{granted, denied}
 use Rattle.refusals.specs.Says.{saysAt}
+use Rattle.form.proofs.Sound.{form-short}
 use Rattle.evaluator.proofs.Evaluates as evaluates
 use borrow.Author.Needs.{needs}
 use Rattle.evaluator.proofs.evaluate.Statement.{statement}
@@ -26,7 +28,7 @@ value-alone-requires : tie.Need-value-alone-requires
 value-alone-requires c κs =
     let told = c .before .before .before .before in
     let formed = told .before .before in
-    evaluates.form-short _ (sym (ap saysAt (told .enum-told .given .1)) ∙ formed .expression-form .ensures)
+    form-short true _ (sym (formed .expression-form .ensures) ∙ ap saysAt (told .enum-told .given .1))
 
 answer-requires : tie.Need-answer-requires
 answer-requires c κs = search needs
