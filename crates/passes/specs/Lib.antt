@@ -1,0 +1,6 @@
+-- The definitions that the contracts of this crate cite.
+pub mod Walk
+pub mod Passes
+pub mod Settle
+pub mod Least
+pub mod Steps
