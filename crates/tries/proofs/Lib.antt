@@ -1,0 +1,8 @@
+-- Laws of a try, of what it writes and how long that is, of the walk over a tape; and that the call allows one answer.
+pub mod Parts
+pub mod Attempts
+pub mod Drawing
+pub mod Lengths
+pub mod Advancing
+pub mod Walking
+pub mod Writing
