@@ -1,0 +1,222 @@
+-- A build by what is noted is the build by what query finds, and numbers that stand in arrays give the same build and the same list.
+-- Assumes nothing.
+use mathlib.Core.Bool.{true}
+use mathlib.Core.List.{List, [], _∷_, _++_, map}
+use mathlib.Core.Option.{Option}
+use mathlib.Core.Path.{_≡_, refl, sym, ap, _∙_, subst}
+use Prim.Native.Nat.{ℕ, zero, suc, _-_, _≤_, _<_}
+use native.Mathlib.Omega.{arith}
+use lib.IntN.{ℤ, pos}
+use lib.ListN.{length, getD, drop, replicate, length-map}
+use borrow.Author.Tests.{le-leb, lt-ltb, eq-eqb}
+use Rattle.refusals.specs.AnswerAt.{AnswerAt, Fine, Fault, mapped, andThen}
+use Rattle.refusals.proofs.Never.{never}
+use Rattle.symbols.specs.Edges.{maxNodes}
+use Rattle.symbols.specs.Symbols.{numberOr0}
+use Rattle.segment.specs.Segment.{size}
+use Rattle.form.specs.Form.{maxTape}
+use Rattle.form.specs.Statements.{What, Instruction, Open, Close, Label, Constant, SetPlace, Byte, Word, Screen, Statement, statements}
+use Rattle.evaluator.specs.Expression.{Value}
+use Rattle.passes.specs.declared.Numbers.{Numbers}
+use Rattle.passes.specs.declared.Passes as P
+use Rattle.passes.specs.declared.Passes.the-variants as after
+use Rattle.passes.specs.Walk.{Origin, origin, here, namesIn}
+use Rattle.passes.specs.Passes.{Values, numbered, declarations, settled}
+use Rattle.passes.specs.Settle as S
+use Rattle.passes.specs.Settle.{filled, numbersIn, numbersBy, readsNoted, settleOf, saysPasses}
+use Rattle.passes.proofs.Agrees.{Alike, settled-alike}
+use Rattle.passes.proofs.Columns.{by-node}
+use Rattle.passes.proofs.Counting.{allowed-by}
+use Rattle.passes.proofs.Settles.{least, passes-length}
+use Rattle.tries.specs.declared.Compares.{Compares}
+use Rattle.tries.specs.declared.Written as W
+use Rattle.tries.specs.declared.Written.the-variants as written
+use Rattle.tries.specs.Tries.{Trying, start, tryAt, tried, tries}
+use Rattle.tries.specs.Write.{isAllowed, triedAll, writeOf, rangeOf, saysWritten, imageOr}
+use Rattle.builder.specs.Build.{Build, builder, listed, numberList, finished, triedWith, builtBy}
+use Rattle.builder.specs.Call.{Report, report, Memory, memory, left}
+use Rattle.builder.specs.Steps.{imageFrom, listFrom, finishedIn, triedIn}
+
+-- ---- two readings that agree at every statement
+
+abbrev Reads : Type 0
+Reads = (ℕ → Option ℤ) → ℤ → ℕ → Value
+
+module _ (r s : Reads) (c : Compares) (numbers : ℕ → Option ℤ) where
+  tried-alike : (t : Trying) (x : Statement) → r numbers (here (t .walk)) (x .expression) ≡ s numbers (here (t .walk)) (x .expression)
+      → tried r c numbers t x ≡ tried s c numbers t x
+  unfolding tried tryAt
+  tried-alike t x e = rw e
+
+  tries-alike : (t : Trying) (xs : List Statement) → Alike r s xs → tries r c numbers t xs ≡ tries s c numbers t xs
+  tries-alike t [] h = refl
+  tries-alike t (x ∷ xs) h =
+      ap (λ (a : AnswerAt Trying). andThen a (λ u. tries r c numbers u xs)) (tried-alike t x (h .0 numbers (here (t .walk))))
+      ∙ go (λ u. tries-alike u xs (h .1)) (tried s c numbers t x)
+    where
+      go : ((u : Trying) → tries r c numbers u xs ≡ tries s c numbers u xs) → (a : AnswerAt Trying)
+          → andThen a (λ u. tries r c numbers u xs) ≡ andThen a (λ u. tries s c numbers u xs)
+      go rest (Fine u) = rest u
+      go rest (Fault n at) = refl
+
+pub built-alike : (r s : Reads) (xs : List Statement) (o : Origin) → Alike r s xs → builtBy r xs o ≡ builtBy s xs o
+unfolding builtBy
+built-alike r s xs o h =
+    ap (λ (a : AnswerAt (ℕ × Values)). andThen a (triedWith r xs o)) (settled-alike r s xs o h) ∙ go (settled s xs o)
+  where
+    go : (a : AnswerAt (ℕ × Values)) → andThen a (triedWith r xs o) ≡ andThen a (triedWith s xs o)
+    go (Fine (n, L)) = ap (mapped (finished s xs o n L)) (tries-alike r s builder (numbered L) (start o) xs h)
+    go (Fault n at) = refl
+
+-- ---- zeros behind the numbers
+
+abbrev zeros : ℕ → List ℤ
+zeros k = replicate k (pos 0)
+
+first-of : (l : List ℤ) (k : ℕ) → getD (l ++ zeros k) 0 (pos 0) ≡ getD l 0 (pos 0)
+first-of [] zero = refl
+first-of [] (suc k) = refl
+first-of (a ∷ l) k = refl
+
+drop-one : (l : List ℤ) (k : ℕ) → (j : ℕ) × (drop 1 (l ++ zeros k) ≡ drop 1 l ++ zeros j)
+drop-one [] zero = (0, refl)
+drop-one [] (suc k) = (k, refl)
+drop-one (a ∷ l) k = (k, refl)
+
+-- they change nothing: a number past the end is 0
+list-zeros : (xs : List Statement) (l : List ℤ) (k : ℕ) → numberList xs (l ++ zeros k) ≡ numberList xs l
+list-zeros [] l k = refl
+list-zeros (x ∷ xs) l k =
+    let d = drop-one l k in
+    go (x .says) (list-zeros xs l k) (ap (numberList xs) (d .1) ∙ list-zeros xs (drop 1 l) (d .0))
+  where
+    go : (w : What) → numberList xs (l ++ zeros k) ≡ numberList xs l → numberList xs (drop 1 (l ++ zeros k)) ≡ numberList xs (drop 1 l)
+        → listed w (l ++ zeros k) ++ numberList xs (drop (namesIn w) (l ++ zeros k)) ≡ listed w l ++ numberList xs (drop (namesIn w) l)
+    go (Label id) same on = λ i. first-of l k i ∷ on i
+    go (Constant id) same on = λ i. first-of l k i ∷ on i
+    go (Open id) same on = on
+    go Close same on = same
+    go (Instruction mnemonic mode suffix) same on = same
+    go SetPlace same on = same
+    go Byte same on = same
+    go Word same on = same
+    go (Screen petscii) same on = same
+
+-- ---- numbers that stand in arrays
+
+module _ (r : Reads) (xs : List Statement) (o : Origin) (few : declarations xs < 1024) where
+  pub tried-arrays : (n : ℕ) (L : Values) → settled r xs o ≡ Fine (n, L) → triedIn r xs o n (numbersBy L) ≡ triedWith r xs o (n, L)
+  unfolding triedIn numbersBy
+  tried-arrays n L e =
+      let short : length L < 1024 = omega (arith, ap length (least r xs o e .1), passes-length r xs o n) in
+      ap (λ (f : ℕ → Option ℤ). mapped (finishedIn xs n (numbersBy L)) (tries r builder f (start o) xs)) (by-node L short)
+      ∙ ap (λ (l : List ℤ). mapped (λ t. withNumbers l t) (tries r builder (numbered L) (start o) xs)) (list-zeros xs (map numberOr0 L) (1024 - length (pos 0 ∷ map numberOr0 L)))
+    where
+      withNumbers : List ℤ → Trying → Build
+      withNumbers l t = record {
+        start = t .page .pen .start;
+        end = t .page .pen .end;
+        image = t .page .image;
+        numbers = l;
+        passes = n;
+      }
+
+-- ---- what the tries answer
+
+module _ (tape nodes : List ℕ) (numbers : Numbers) (initial : ℕ) (c : Compares) where
+  pub write-allowed : length tape ≤ maxTape → initial ≤ size → {n : ℕ} → n ≡ size
+      → writeOf tape nodes numbers initial c n ≡ triedAll tape nodes numbers initial c
+  unfolding writeOf isAllowed
+  write-allowed a b e = rw (le-leb (length tape) 65536 a, le-leb initial 65536 b, eq-eqb _ 65536 e)
+
+-- two values, or two faults, that are equal
+abbrev fineOr : {A : Type 0} → A → AnswerAt A → A
+fineOr d (Fine a) = a
+fineOr d (Fault n at) = d
+
+fine-is : {A : Type 0} (d : A) {a b : A} → Fine a ≡ Fine b → a ≡ b
+fine-is d e = ap (fineOr d) e
+
+pub fault-is : {A B : Type 0} {m at n i : ℕ} → _≡_ {A = AnswerAt A} (Fault m at) (Fault n i) → _≡_ {A = AnswerAt B} (Fault m at) (Fault n i)
+fault-is {m = m} {at} {n} {i} e =
+    let number : m ≡ n = cc in
+    let place : at ≡ i = cc in
+    λ j. Fault (number j) (place j)
+
+-- what is left of the image and of the list
+abbrev pub Left : AnswerAt Report → (image image′ : List ℕ) (list list′ : List ℤ) → AnswerAt Build → Type 0
+Left b image image′ list list′ a = (b ≡ mapped report a) × (image′ ≡ imageFrom image a) × (list′ ≡ listFrom list a)
+
+module _ (F : Trying → Build) (image : List ℕ) (list : List ℤ) {w : W.Written} {image′ : List ℕ} where
+  pub tried-refused : {m at : ℕ} → w ≡ written.Refused m at → (a : AnswerAt Trying) → saysWritten w ≡ mapped rangeOf a → image′ ≡ imageOr image a
+      → {b : AnswerAt Report} → b ≡ Fault m at → Left b image image′ list list (mapped F a)
+  tried-refused is (Fine t) e i b = never (cc)
+  tried-refused {m} {at} is (Fault n j) e i b =
+      (b ∙ fault-is (sym (ap saysWritten is) ∙ e), i, refl)
+
+  -- the tries being fine: the list has the numbers, and c is how many they are
+  pub tried-done : {from to n c : ℕ} {list′ : List ℤ} → w ≡ written.Range from to → (a : AnswerAt Trying) → saysWritten w ≡ mapped rangeOf a
+      → image′ ≡ imageOr image a
+      → ((t : Trying) → (F t .start ≡ t .page .pen .start) × (F t .end ≡ t .page .pen .end) × (F t .image ≡ t .page .image)
+      × (c ≡ length (F t .numbers)) × (F t .passes ≡ n) × (list′ ≡ filled 1024 (pos 0) (F t .numbers)))
+      → Left (Fine (from, to, c, n)) image image′ list list′ (mapped F a)
+  tried-done {from} {to} is (Fine t) e i told =
+      let both : _≡_ {A = ℕ × ℕ} (from, to) (rangeOf t) = fine-is (0, 0) (sym (ap saysWritten is) ∙ e) in
+      let f = told t in (
+        (λ j. Fine ((ap (λ p. p .0) both ∙ sym (f .0)) j, (ap (λ p. p .1) both ∙ sym (f .1)) j, f .3 j, sym (f .4) j)),
+        i ∙ sym (f .2),
+        f .5,
+      )
+  tried-done is (Fault n j) e i told = never (cc)
+
+-- ---- what settling answers
+
+module _ {p : P.Passes} {numbers : Numbers} where
+  pub settled-refused : {m at : ℕ} → p ≡ after.Refused m at → (a : AnswerAt (ℕ × Values)) → (saysPasses p, numbers) ≡ S.left a → a ≡ Fault m at
+  settled-refused is (Fine (n, L)) e = never (let f = sym (ap saysPasses is) ∙ ap (λ x. x .0) e in cc)
+  settled-refused is (Fault n i) e = sym (fault-is (sym (ap saysPasses is) ∙ ap (λ x. x .0) e))
+
+  pub settled-after : {n : ℕ} → p ≡ after.After n → (a : AnswerAt (ℕ × Values)) → (saysPasses p, numbers) ≡ S.left a
+      → (L : Values) × (a ≡ Fine (n, L)) × (numbers ≡ numbersBy L)
+  settled-after is (Fine (n, L)) e =
+      let same = fine-is 0 (sym (ap saysPasses is) ∙ ap (λ x. x .0) e) in
+      (L, (λ j. Fine (sym same j, L)), ap (λ x. x .1) e)
+  settled-after is (Fault n i) e = never (let f = sym (ap saysPasses is) ∙ ap (λ x. x .0) e in cc)
+
+pub settle-allowed : (tape nodes : List ℕ) (initial : ℕ) → length tape ≤ maxTape → initial ≤ size → declarations (statements tape) < 1024
+    → settleOf tape nodes initial ≡ settled (readsNoted tape nodes) (statements tape) (origin initial)
+unfolding settleOf
+settle-allowed tape nodes initial a b few =
+    rw (sym (allowed-by tape initial a b refl) ∙ lt-ltb (declarations (statements tape)) 1024 few)
+
+-- the build is then the tries with these numbers
+pub built-after : (r : Reads) (xs : List Statement) (o : Origin) → declarations xs < 1024 → {n : ℕ} {numbers : Numbers}
+    → (L : Values) × (settled r xs o ≡ Fine (n, L)) × (numbers ≡ numbersBy L) → triedIn r xs o n numbers ≡ builtBy r xs o
+unfolding builtBy
+built-after r xs o few {n} (L, e, is) =
+    ap (triedIn r xs o n) is
+    ∙ tried-arrays r xs o few n L e
+    ∙ sym (ap (λ (a : AnswerAt (ℕ × Values)). andThen a (triedWith r xs o)) e)
+
+pub built-refused : (r : Reads) (xs : List Statement) (o : Origin) {m at : ℕ} → settled r xs o ≡ Fault m at → builtBy r xs o ≡ Fault m at
+unfolding builtBy
+built-refused r xs o e = ap (λ (a : AnswerAt (ℕ × Values)). andThen a (triedWith r xs o)) e
+
+-- ---- what a build leaves
+
+module _ (image : List ℕ) (list : List ℤ) where
+  pub left-refused : {m at : ℕ} {b : AnswerAt Report} (a : AnswerAt Build) → a ≡ Fault m at → b ≡ Fault m at → Left b image image list list a
+  left-refused a e h = rw (e, h) (refl, refl, refl)
+
+  pub left-same : {b : AnswerAt Report} {image′ : List ℕ} {list′ : List ℤ} (a a′ : AnswerAt Build) → a ≡ a′
+      → Left b image image′ list list′ a → Left b image image′ list list′ a′
+  left-same {b} {image′} {list′} a a′ e h = subst (Left b image image′ list list′) e h
+
+-- ---- the call
+
+module _ (m : Memory) (list : List ℤ) (zero : list ≡ replicate 1024 (pos 0)) where
+  -- all that is left, where the list was zero before the build and the work memory is zero after it
+  pub left-all : {b : AnswerAt Report} {image′ : List ℕ} {list′ : List ℤ} {work′ : List ℕ} (a : AnswerAt Build)
+      → Left b (m .image) image′ list list′ a → work′ ≡ replicate 65536 0 → (b, memory image′ list′ work′) ≡ left m a
+  left-all (Fine x) h w = λ i. (h .0 i, memory (h .1 i) (h .2 i) (w i))
+  left-all (Fault n at) h w = λ i. (h .0 i, memory (h .1 i) ((h .2 ∙ zero) i) (w i))

@@ -1,0 +1,76 @@
+-- Every statement is tried; then the list is filled. Assumes nothing.
+use mathlib.Core.Path.{refl, ap, _∙_}
+use Rattle.refusals.specs.AnswerAt.{mapped}
+use Rattle.form.specs.Statements.{statements}
+use Rattle.tries.specs.Write.{triedAll, rangeOf, imageOr}
+use Rattle.builder.specs.Build.{builder}
+use Rattle.builder.specs.Steps.{finishedIn, triedIn}
+use Rattle.builder.proofs.Builds.{write-allowed, tried-refused, tried-done}
+use borrow.Author.Needs.{needs}
+use Rattle.builder.proofs.build_tried.Statement.{statement}
+use Rattle.builder.proofs.build_tried.Tie as tie
+
+write-requires : tie.Need-write-requires
+write-requires c κs = search needs
+
+enum-known-number : tie.Need-enum-known-number
+enum-known-number c = search needs
+
+refused-requires : tie.Need-refused-requires
+refused-requires c κs = search needs
+
+enum-known-start : tie.Need-enum-known-start
+enum-known-start c = search needs
+
+fill-list-requires : tie.Need-fill-list-requires
+fill-list-requires c κs = search needs
+
+same-length : tie.Need-same-length
+same-length c = search needs
+
+returns : tie.Need-returns
+unfolding triedIn triedAll
+returns c =
+    let told = c .before .before in
+    let written = told .before .before .before .before in
+    let given = written .before .before .before .before .before in
+    let args = given .args in
+    let all = write-allowed (args .tape .now) (args .nodes .now) (args .t3) (args .initial) builder (given .pre .0) (given .pre .1) (given .pre .2) in
+    tried-refused (finishedIn (statements (args .tape .now)) (args .passes) (args .t3)) (args .image .now) (args .list .now) (told .number .given .1)
+    (triedAll (args .tape .now) (args .nodes .now) (args .t3) (args .initial) builder)
+    (written .write .ensures .0 ∙ ap (mapped rangeOf) all) (written .write .ensures .1 ∙ ap (imageOr (args .image .now)) all) (c .refused .ensures)
+
+same-length-2 : tie.Need-same-length-2
+same-length-2 c = search needs
+
+same-length-3 : tie.Need-same-length-3
+same-length-3 c = search needs
+
+returns-2 : tie.Need-returns-2
+unfolding triedIn triedAll
+returns-2 c =
+    let listed = c .before in
+    let told = listed .before .before .before .before .before in
+    let written = told .before .before .before .before in
+    let given = written .before .before .before .before .before in
+    let args = given .args in
+    let all = write-allowed (args .tape .now) (args .nodes .now) (args .t3) (args .initial) builder (given .pre .0) (given .pre .1) (given .pre .2) in
+    tried-done (finishedIn (statements (args .tape .now)) (args .passes) (args .t3)) (args .image .now) (args .list .now) (told .start .given .1)
+    (triedAll (args .tape .now) (args .nodes .now) (args .t3) (args .initial) builder)
+    (written .write .ensures .0 ∙ ap (mapped rangeOf) all) (written .write .ensures .1 ∙ ap (imageOr (args .image .now)) all)
+    (λ t. (refl, refl, refl, listed .fill-list .ensures .0, refl, listed .fill-list .ensures .1))
+
+pub build-tried-spec : {M : Type 1} → statement M
+build-tried-spec =
+    tie.close
+    (tie.spec
+    write-requires
+    enum-known-number
+    refused-requires
+    enum-known-start
+    fill-list-requires
+    same-length
+    returns
+    same-length-2
+    same-length-3
+    returns-2)

@@ -1,0 +1,74 @@
+-- The build of a tape. Document 01: form, names, then "Passes". Assumes nothing: these are definitions.
+use Prim.Native.Nat.{ℕ}
+use mathlib.Core.List.{List, [], _∷_, _++_, map}
+use mathlib.Core.Option.{Option}
+use lib.IntN.{ℤ, pos}
+use lib.ListN.{getD, drop}
+use Rattle.refusals.specs.AnswerAt.{AnswerAt, mapped, andThen}
+use Rattle.refusals.specs.Table.{moved}
+use Rattle.symbols.specs.Symbols.{numberOr0}
+use Rattle.form.specs.Statements.{What, Instruction, Open, Close, Label, Constant, SetPlace, Byte, Word, Screen, Statement, statements}
+use Rattle.evaluator.specs.Expression.{Value}
+use Rattle.names.specs.Names.{namesOf}
+use Rattle.passes.specs.Walk.{Origin, namesIn}
+use Rattle.passes.specs.Passes.{Values, numbered, settled}
+use Rattle.tries.specs.declared.Compares.{Compares}
+use Rattle.tries.specs.Tries.{Trying, start, tries}
+use Rattle.builder.specs.Reads.{readsOn}
+
+-- ---- the number list
+
+-- of the numbers from a statement's name on, those that go into the list: "one number per label or constant"
+abbrev pub listed : What → List ℤ → List ℤ
+listed (Label id) l = getD l 0 (pos 0) ∷ []
+listed (Constant id) l = getD l 0 (pos 0) ∷ []
+listed (Open id) l = []
+listed Close l = []
+listed (Instruction mnemonic mode suffix) l = []
+listed SetPlace l = []
+listed Byte l = []
+listed Word l = []
+listed (Screen petscii) l = []
+
+-- of the numbers of all names, in tape order: "Number lists are in tape order"
+abbrev pub numberList : List Statement → List ℤ → List ℤ
+numberList [] l = []
+numberList (x ∷ xs) l = listed (x .says) l ++ numberList xs (drop (namesIn (x .says)) l)
+
+-- ---- the build
+
+-- what it compares: "a label's place at the last walk is not its settled number"
+abbrev pub builder : Compares
+builder = record { label = moved; constant = 0 }
+
+-- where what is written starts and ends, the image, the number list, and how many passes there were
+pub record Build : Type 0 where
+  pub start : ℕ
+  pub end : ℕ
+  pub image : List ℕ
+  pub numbers : List ℤ
+  pub passes : ℕ
+
+-- reads: what the expression at an offset comes to, where the nodes have these numbers, at a place
+module _ (reads : (ℕ → Option ℤ) → ℤ → ℕ → Value) (xs : List Statement) (o : Origin) where
+  -- after n passes, which settled on L, and the tries
+  abbrev pub finished : ℕ → Values → Trying → Build
+  finished n L t = record {
+    start = t .page .pen .start;
+    end = t .page .pen .end;
+    image = t .page .image;
+    numbers = numberList xs (map numberOr0 L);
+    passes = n;
+  }
+
+  -- the tries read the settled numbers
+  abbrev pub triedWith : ℕ × Values → AnswerAt Build
+  triedWith (n, L) = mapped (finished n L) (tries reads builder (numbered L) (start o) xs)
+
+  -- passes, then tries
+  unfoldable pub builtBy : AnswerAt Build
+  builtBy = andThen (settled reads xs o) triedWith
+
+-- form and names, passes, tries
+unfoldable pub built : List ℕ → Origin → AnswerAt Build
+built tape o = andThen (namesOf tape) (λ t. builtBy (readsOn tape t) (statements tape) o)

@@ -1,0 +1,46 @@
+-- What private functions promise each other on the way. No public promise cites these. Assumes nothing: these are definitions.
+use Prim.Native.Nat.{ℕ}
+use mathlib.Core.Bool.{Bool, _||_}
+use mathlib.Core.List.{List}
+use mathlib.Core.Option.{Option}
+use lib.Dec.{eqb}
+use lib.IntN.{ℤ, pos}
+use lib.ListN.{drop}
+use Rattle.refusals.specs.AnswerAt.{AnswerAt, Fine, Fault, mapped}
+use Rattle.symbols.specs.Edges.{maxNodes}
+use Rattle.tape.specs.Kinds.{label, constant}
+use Rattle.form.specs.Statements.{Statement}
+use Rattle.evaluator.specs.Expression.{Value}
+use Rattle.passes.specs.declared.Numbers.{Numbers}
+use Rattle.passes.specs.Walk.{Origin}
+use Rattle.passes.specs.Settle.{filled, numbersIn}
+use Rattle.tries.specs.Tries.{Trying, start, tries}
+use Rattle.builder.specs.Build.{Build, builder, numberList}
+
+-- an image behind a build
+abbrev pub imageFrom : List ℕ → AnswerAt Build → List ℕ
+imageFrom image (Fine b) = b .image
+imageFrom image (Fault n at) = image
+
+-- a number list that was zero, behind a build
+abbrev pub listFrom : List ℤ → AnswerAt Build → List ℤ
+listFrom list (Fine b) = filled maxNodes (pos 0) (b .numbers)
+listFrom list (Fault n at) = list
+
+-- the tries with numbers that stand in arrays, by node
+abbrev pub finishedIn : List Statement → ℕ → Numbers → Trying → Build
+finishedIn xs n numbers t = record {
+  start = t .page .pen .start;
+  end = t .page .pen .end;
+  image = t .page .image;
+  numbers = numberList xs (drop 1 (numbers .number));
+  passes = n;
+}
+
+unfoldable pub triedIn : ((ℕ → Option ℤ) → ℤ → ℕ → Value) → List Statement → Origin → ℕ → Numbers → AnswerAt Build
+triedIn reads xs o n numbers =
+    mapped (finishedIn xs n numbers) (tries reads builder (numbersIn (numbers .known) (numbers .number)) (start o) xs)
+
+-- a kind of which what is declared has a number
+unfoldable pub isNumbered : ℕ → Bool
+isNumbered k = eqb k label || eqb k constant

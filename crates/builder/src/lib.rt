@@ -1,0 +1,246 @@
+// The builder: from a tape to an image. Form and names, passes until the numbers repeat, and each statement tried; the lent image is
+// written where nothing is refused, and the work memory is zero again at the end.
+use form::LONGEST;
+use passes::Numbers;
+use passes::Passes;
+use refusals::ARGUMENT;
+use refusals::MOVED;
+use refusals::OutcomeAt;
+use symbols::NODES;
+use tape::CONSTANT;
+use tape::LABEL;
+use tries::Compares;
+use tries::Written;
+ghost use mathlib.Core.Bool.{true};
+ghost use mathlib.Core.Path.{_≡_};
+ghost use Prim.Native.Nat.{_+_, _≤_, _<_};
+ghost use lib.IntN.{pos};
+ghost use lib.ListN.{length, getD, set, drop, replicate};
+ghost use Rattle.refusals.specs.Answer.{pick};
+ghost use Rattle.refusals.specs.AnswerAt.{Fault, mapped};
+ghost use Rattle.symbols.specs.Edges.{maxNodes};
+ghost use Rattle.segment.specs.Segment.{size};
+ghost use Rattle.form.specs.Form.{maxTape, declares};
+ghost use Rattle.form.specs.Statements.{statements};
+ghost use Rattle.passes.specs.Walk.{origin};
+ghost use Rattle.passes.specs.Passes.{declarations};
+ghost use Rattle.passes.specs.Settle.{filled, readsNoted};
+ghost use Rattle.builder.specs.Build.{numberList, builtBy, built};
+ghost use Rattle.builder.specs.Call.{workPlaces, isAllowed, memory, buildOf, report, saysBuilt};
+ghost use Rattle.builder.specs.Steps.{imageFrom, listFrom, triedIn, isNumbered};
+
+// How many bytes an image has; also the greatest place.
+pub const SIZE: usize = 65536;
+
+// How many places the work memory has: one for each offset of a tape.
+pub const WORK: usize = 65536;
+
+// A finished build: where what is written starts and ends, how many numbers the list has, and how many passes there were. Or the
+// refusal.
+pub enum Built {
+    Finished { start: usize, end: usize, numbers: usize, passes: usize },
+    Refused { number: u8, at: usize },
+}
+
+// Builds a tape from an initial place.
+pub fn build<'a>(
+    tape: &'a [u8],
+    initial: usize,
+    image: &mut [u8],
+    numbers: &mut [i64],
+    work: &mut [u16],
+) -> Built
+    ensures { λ r. ⌜ (saysBuilt r, memory (now (image .exit)) (now (numbers .exit)) (now (work .exit)))
+        ≡ buildOf (now (tape .entry)) initial (memory (now (image .entry)) (now (numbers .entry)) (now (work .entry))) ⌝ }
+{
+    if !is_allowed(tape.len(), initial, image.len(), numbers.len(), work.len()) {
+        return refused(ARGUMENT, 0);
+    }
+    zero_list(numbers);
+    let built = build_names(tape, initial, image, numbers, work);
+    zero_work(work);
+    built
+}
+
+// Whether the lengths and the initial place are in their ranges.
+fn is_allowed(tape: usize, initial: usize, image: usize, list: usize, work: usize) -> bool
+    ensures { λ r. ⌜ r ≡ isAllowed tape initial image list work ⌝ }
+{
+    if LONGEST < tape {
+        return false;
+    }
+    if SIZE < initial {
+        return false;
+    }
+    if image != SIZE {
+        return false;
+    }
+    if list != NODES {
+        return false;
+    }
+    work == WORK
+}
+
+// A refusal.
+fn refused(number: u8, at: usize) -> Built
+    ensures { λ r. ⌜ saysBuilt r ≡ Fault number at ⌝ }
+{
+    Built::Refused { number, at }
+}
+
+// Makes every number zero.
+fn zero_list(list: &mut [i64])
+    ensures { λ _. ⌜ now (list .exit) ≡ replicate (length (now (list .entry))) (pos 0) ⌝ }
+{
+    let mut i: usize = 0;
+    while i < list.len() {
+        list[i] = 0;
+        i += 1;
+    }
+}
+
+// Makes every place of the work memory zero.
+fn zero_work(work: &mut [u16])
+    ensures { λ _. ⌜ now (work .exit) ≡ replicate (length (now (work .entry))) 0 ⌝ }
+{
+    let mut i: usize = 0;
+    while i < work.len() {
+        work[i] = 0;
+        i += 1;
+    }
+}
+
+// The build behind its arguments: form and names.
+fn build_names(
+    tape: &[u8],
+    initial: usize,
+    image: &mut [u8],
+    list: &mut [i64],
+    nodes: &mut [u16],
+) -> Built
+    requires { ⌜ (length (now tape) ≤ maxTape) × (initial ≤ size) × (length (now image) ≡ size) × (now list ≡ replicate maxNodes (pos 0))
+        × (length (now nodes) ≡ workPlaces) ⌝ }
+    ensures { λ r. ⌜ (saysBuilt r ≡ mapped report (built (now (tape .entry)) (origin initial)))
+        × (now (image .exit) ≡ imageFrom (now (image .entry)) (built (now (tape .entry)) (origin initial)))
+        × (now (list .exit) ≡ listFrom (now (list .entry)) (built (now (tape .entry)) (origin initial)))
+        × (length (now (nodes .exit)) ≡ length (now (nodes .entry))) ⌝ }
+{
+    let declared = names::declare(tape, nodes);
+    let answer = declared.answer;
+    match answer {
+        OutcomeAt::Refused { number, at } => refused(number, at),
+        OutcomeAt::Done => build_settled(tape, nodes, initial, image, list),
+    }
+}
+
+// The names being resolved: the passes.
+fn build_settled<'a>(
+    tape: &'a [u8],
+    nodes: &'a [u16],
+    initial: usize,
+    image: &mut [u8],
+    list: &mut [i64],
+) -> Built
+    requires { ⌜ (length (now tape) ≤ maxTape) × (initial ≤ size) × (length (now image) ≡ size) × (now list ≡ replicate maxNodes (pos 0))
+        × (declarations (statements (now tape)) < maxNodes) ⌝ }
+    ensures { λ r. ⌜ (saysBuilt r ≡ mapped report (builtBy (readsNoted (now (tape .entry)) (now (nodes .entry))) (statements (now (tape .entry))) (origin initial)))
+        × (now (image .exit) ≡ imageFrom (now (image .entry)) (builtBy (readsNoted (now (tape .entry)) (now (nodes .entry))) (statements (now (tape .entry))) (origin initial)))
+        × (now (list .exit) ≡ listFrom (now (list .entry)) (builtBy (readsNoted (now (tape .entry)) (now (nodes .entry))) (statements (now (tape .entry))) (origin initial))) ⌝ }
+{
+    let settled = passes::settle(tape, nodes, initial);
+    let answer = settled.answer;
+    match answer {
+        Passes::Refused { number, at } => refused(number, at),
+        Passes::After(n) => {
+            let numbers = settled.numbers;
+            build_tried(tape, nodes, numbers, n, initial, image, list)
+        }
+    }
+}
+
+// The numbers being settled: the tries, and the number list.
+fn build_tried<'a>(
+    tape: &'a [u8],
+    nodes: &'a [u16],
+    numbers: Numbers,
+    passes: usize,
+    initial: usize,
+    image: &mut [u8],
+    list: &mut [i64],
+) -> Built
+    requires { ⌜ (length (now tape) ≤ maxTape) × (initial ≤ size) × (length (now image) ≡ size) × (now list ≡ replicate maxNodes (pos 0))
+        × (declarations (statements (now tape)) < maxNodes) ⌝ }
+    ensures { λ r. ⌜ (saysBuilt r ≡ mapped report (triedIn (readsNoted (now (tape .entry)) (now (nodes .entry))) (statements (now (tape .entry))) (origin initial) passes numbers))
+        × (now (image .exit) ≡ imageFrom (now (image .entry)) (triedIn (readsNoted (now (tape .entry)) (now (nodes .entry))) (statements (now (tape .entry))) (origin initial) passes numbers))
+        × (now (list .exit) ≡ listFrom (now (list .entry)) (triedIn (readsNoted (now (tape .entry)) (now (nodes .entry))) (statements (now (tape .entry))) (origin initial) passes numbers)) ⌝ }
+{
+    let compares = Compares {
+        label: MOVED,
+        constant: 0,
+    };
+    match tries::write(tape, nodes, numbers, initial, compares, image) {
+        Written::Refused { number, at } => refused(number, at),
+        Written::Range { start, end } => {
+            let count = fill_list(tape, &numbers.number, list);
+            Built::Finished {
+                start,
+                end,
+                numbers: count,
+                passes,
+            }
+        }
+    }
+}
+
+// Writes the numbers of labels and constants, in tape order, and gives how many they are.
+fn fill_list<'a>(tape: &'a [u8], number: &'a [i64; NODES], list: &mut [i64]) -> usize
+    requires { ⌜ (length (now tape) ≤ maxTape) × (now list ≡ replicate maxNodes (pos 0)) × (declarations (statements (now tape)) < maxNodes) ⌝ }
+    ensures { λ r. ⌜ (r ≡ length (numberList (statements (now (tape .entry))) (drop 1 (now (number .entry)))))
+        × (now (list .exit) ≡ filled maxNodes (pos 0) (numberList (statements (now (tape .entry))) (drop 1 (now (number .entry))))) ⌝ }
+{
+    let mut names: usize = 0;
+    let mut count: usize = 0;
+    let mut at: usize = 0;
+    while at < tape.len() {
+        let rec = tape::record(tape, at);
+        if form::is_last(rec) {
+            return count;
+        }
+        let kind = little::u8_at(rec, 0);
+        count = listed(kind, number, names, list, count);
+        names = names_after(names, kind);
+        at += rec.len();
+    }
+    count
+}
+
+// The list with one number more, where a record of this kind is a label or a constant; and how many it has then.
+fn listed<'a>(kind: u8, number: &'a [i64; NODES], names: usize, list: &mut [i64], count: usize) -> usize
+    requires { ⌜ (isNumbered kind ≡ true → names + 1 < maxNodes) × (count < length (now list)) ⌝ }
+    ensures { λ r. ⌜ (r ≡ pick (isNumbered kind) (count + 1) count)
+        × (now (list .exit) ≡ pick (isNumbered kind) (set (now (list .entry)) count (getD (now (number .entry)) (names + 1) (pos 0))) (now (list .entry))) ⌝ }
+{
+    if is_numbered(kind) {
+        list[count] = number[names + 1];
+        return count + 1;
+    }
+    count
+}
+
+// Whether what a record of this kind declares has a number: labels and constants.
+fn is_numbered(kind: u8) -> bool
+    ensures { λ r. ⌜ r ≡ isNumbered kind ⌝ }
+{
+    if kind == LABEL {
+        return true;
+    }
+    kind == CONSTANT
+}
+
+// One name more, where a record of this kind declares one.
+fn names_after(names: usize, kind: u8) -> usize
+    requires { ⌜ names < maxNodes ⌝ }
+    ensures { λ r. ⌜ r ≡ pick (declares kind) (names + 1) names ⌝ }
+{
+    if form::declares(kind) { names + 1 } else { names }
+}
