@@ -5,5 +5,6 @@ pub mod Reading
 pub mod Sound
 pub mod Loop
 pub mod Statements
+pub mod Numbers
 pub mod Said
 pub mod Unique

@@ -33,7 +33,7 @@ declared-nodes xs d fine = let all = ran xs (declaring new outermost) good-new f
 
 -- ---- an accepted tape
 
-names-sound : (tape : List ℕ) {t : SymbolTable} → namesOf tape ≡ Fine t → (tapeForm tape ≡ Fine tt) × (declaredOn tape ≡ Fine t)
+pub names-sound : (tape : List ℕ) {t : SymbolTable} → namesOf tape ≡ Fine t → (tapeForm tape ≡ Fine tt) × (declaredOn tape ≡ Fine t)
 unfolding namesOf declaredOn
 names-sound tape {t} fine = go (tapeForm tape) refl fine
   where

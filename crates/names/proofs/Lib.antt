@@ -7,4 +7,5 @@ pub mod Filling
 pub mod Resolving
 pub mod Calls
 pub mod Kept
+pub mod Numbers
 pub mod Unique

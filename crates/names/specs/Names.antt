@@ -21,7 +21,7 @@ use Rattle.names.specs.Scopes.{Scopes, outermost, scopeOf, scopesAfter, 
 
 -- ---- declaring
 
--- the id that a statement declares, if it does: "scopes, labels and constants"
+-- the id that a statement declares, if it does: scopes, labels and constants are names
 abbrev pub idOf : What → Option ℕ
 idOf (Open id) = some id
 idOf (Label id) = some id

@@ -19,13 +19,14 @@ use Rattle.form.specs.Form.{declares}
 use Rattle.form.specs.Statements.{What, Instruction, Open, Close, Label, Constant, SetPlace, Byte, Word, Screen, whatOf}
 use Rattle.form.specs.Statements.{Statement, isInner, isLast, statementsAt, statements}
 use Rattle.form.proofs.Statements.{not-empty, statements-past, statements-last, statements-inner, statements-one}
+use Rattle.form.proofs.Said.{by-kind}
 use Rattle.passes.specs.declared.Walk.{Walk}
 use Rattle.passes.specs.Walk as W
 use Rattle.passes.specs.Walk.{origin, begin, namesIn, step}
 use Rattle.passes.specs.Passes.{Values, numberOf, gives, pass, declarations}
 use Rattle.passes.specs.Settle.{numbersBy, readsNoted, valueOf, isAllowed}
 use Rattle.passes.specs.Steps.{stepOver, keptFor, keptIn}
-use Rattle.passes.proofs.Records.{by-kind, place-most}
+use Rattle.passes.proofs.Records.{place-most}
 use Rattle.passes.proofs.Counting.{inner-none, names-on, allowed}
 use Rattle.passes.proofs.Columns.{column, column-more}
 

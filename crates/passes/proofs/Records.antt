@@ -3,25 +3,26 @@
 use mathlib.Core.Bool.{Bool, true, false, _&&_}
 use mathlib.Core.List.{List, [], _∷_}
 use mathlib.Core.Option.{Option, none, some}
-use mathlib.Core.Path.{_≡_, refl, sym, ap, subst, _∙_}
+use mathlib.Core.Path.{_≡_, refl, sym, ap, _∙_}
 use Prim.Native.Nat.{ℕ, _+_, _≤_}
 use native.Mathlib.Omega.{arith}
-use lib.Dec.{eqb, leb}
+use lib.Dec.{leb}
 use lib.IntN.{ℤ, pos, negsuc, natAbs}
 use lib.ListN.{getD}
-use borrow.Author.Tests.{ne-eqb, eqb-true, eqb-false, leb-true}
+use borrow.Author.Tests.{leb-true}
 use Rattle.refusals.specs.Answer.{pick}
 use Rattle.refusals.specs.Each.{Each}
 use Rattle.refusals.proofs.Never.{never}
 use Rattle.refusals.proofs.Pick.{at-true, at-false}
-use Rattle.little.specs.Little.{numberAt}
 use Rattle.opcodes.specs.declared.Form.{Form}
 use Rattle.opcodes.specs.Manual.{formsOf}
 use Rattle.opcodes.specs.Encode.{lengthOf}
 use Rattle.opcodes.proofs.Manual.{shortForm, short-forms}
-use Rattle.tape.specs.Kinds.{instruction, openScope, closeScope, label, constant, setPlace, byte, word}
+use Rattle.tape.specs.Kinds.{instruction, closeScope, setPlace, word}
 use Rattle.form.specs.Form.{declares}
 use Rattle.form.specs.Statements.{What, Instruction, Open, Close, Label, Constant, SetPlace, Byte, Word, Screen, whatOf, isInner}
+use Rattle.form.proofs.Said as Said
+use Rattle.form.proofs.Said.{whatBy, by-kind}
 use Rattle.passes.specs.declared.Walk.{Walk}
 use Rattle.passes.specs.Walk.{walk, takesEarly, formLength, lengthIn, movedTo, isPlace, placeAfter, namesIn, step}
 use Rattle.passes.specs.Steps.{stepOver}
@@ -29,50 +30,10 @@ use Rattle.passes.specs.Steps.{stepOver}
 -- ---- by its kind
 
 module _ (r : List ℕ) where
-  -- what a record with the bytes of r and the kind k says
-  abbrev pub whatBy : ℕ → What
-  whatBy k =
-      pick (eqb k instruction) (Instruction (getD r 1 0) (getD r 2 0) (getD r 3 0))
-      (pick (eqb k openScope) (Open (numberAt 2 r 1))
-      (pick (eqb k closeScope) Close
-      (pick (eqb k label) (Label (numberAt 2 r 1))
-      (pick (eqb k constant) (Constant (numberAt 2 r 1))
-      (pick (eqb k setPlace) SetPlace
-      (pick (eqb k byte) Byte
-      (pick (eqb k word) Word
-      (Screen (getD r 1 0)))))))))
-
-  -- what holds of every kind and what it says
-  module _ (P : ℕ → What → Type 0) where
-    branch : (k n : ℕ) (x y : What) → P n x → ((k ≡ n → ⊥) → P k y) → P k (pick (eqb k n) x y)
-    branch k n x y here on = go (eqb k n) refl
-      where
-        go : (t : Bool) → eqb k n ≡ t → P k (pick t x y)
-        go true e = subst (λ (m : ℕ). P m x) (sym (eqb-true k n e)) here
-        go false e = on (eqb-false k n e)
-
-    pub by-kind : P instruction (Instruction (getD r 1 0) (getD r 2 0) (getD r 3 0)) → P openScope (Open (numberAt 2 r 1))
-        → P closeScope Close → P label (Label (numberAt 2 r 1)) → P constant (Constant (numberAt 2 r 1)) → P setPlace SetPlace
-        → P byte Byte → P word Word
-        → ((k : ℕ) → declares k ≡ false → P k (Screen (getD r 1 0)))
-        → (k : ℕ) → P k (whatBy k)
-    unfolding declares
-    by-kind i o c l n s b w other k =
-        branch k instruction _ _ i (λ xi.
-        branch k openScope _ _ o (λ xo.
-        branch k closeScope _ _ c (λ xc.
-        branch k label _ _ l (λ xl.
-        branch k constant _ _ n (λ xn.
-        branch k setPlace _ _ s (λ xs.
-        branch k byte _ _ b (λ xb.
-        branch k word _ _ w (λ xw.
-        other k (rw (ne-eqb k openScope xo, ne-eqb k label xl, ne-eqb k constant xn))))))))))
-
   module _ (k : ℕ) (is : k ≡ getD r 0 0) where
     -- by one kind
-    said : (n : ℕ) → k ≡ n → whatOf r ≡ whatBy n
-    unfolding whatOf
-    said n e = ap whatBy (sym is ∙ e)
+    said : (n : ℕ) → k ≡ n → whatOf r ≡ whatBy r n
+    said n e = Said.said r k is ∙ ap (whatBy r) e
 
     -- ---- names
 
@@ -81,7 +42,7 @@ module _ (r : List ℕ) where
     names-said m =
         let none : m ≡ m + 0 = omega arith in
         rw (said k refl)
-        (by-kind (λ n x. pick (declares n) (m + 1) m ≡ m + namesIn x) none refl none refl refl none none none
+        (by-kind r (λ n x. pick (declares n) (m + 1) m ≡ m + namesIn x) none refl none refl refl none none none
         (λ n e. sym (at-false (m + 1) m e) ∙ none) k)
 
     -- ---- lengths
@@ -95,14 +56,14 @@ module _ (r : List ℕ) where
       length-instruction e pa pb pd pf h = rw (said instruction e) (h ∙ ap (λ (l : List Form). formLength l v) (pf ∙ triple pa pb pd))
 
       -- a kind whose length is plain
-      pub length-said : (n m : ℕ) → k ≡ n → m ≡ lengthIn (whatBy n) v → m ≡ lengthIn (whatOf r) v
+      pub length-said : (n m : ℕ) → k ≡ n → m ≡ lengthIn (whatBy r n) v → m ≡ lengthIn (whatOf r) v
       length-said n m e h = rw (said n e) h
 
       pub length-declares : declares k ≡ true → 0 ≡ lengthIn (whatOf r) v
       unfolding declares
       length-declares t =
           rw (said k refl)
-          (by-kind (λ n x. declares n ≡ true → 0 ≡ lengthIn x v)
+          (by-kind r (λ n x. declares n ≡ true → 0 ≡ lengthIn x v)
           (λ e. never (cc)) (λ e. refl) (λ e. refl) (λ e. refl) (λ e. refl) (λ e. refl) (λ e. never (cc)) (λ e. never (cc))
           (λ n f e. never (cc)) k t)
 
@@ -111,7 +72,7 @@ module _ (r : List ℕ) where
       unfolding declares
       length-one a b t c d =
           rw (said k refl)
-          (by-kind
+          (by-kind r
           (λ n x. (n ≡ instruction → ⊥) → (n ≡ word → ⊥) → declares n ≡ false → (n ≡ closeScope → ⊥) → (n ≡ setPlace → ⊥)
           → 1 ≡ lengthIn x v)
           (λ a b t c d. absurd (a refl)) (λ a b t c d. never (cc)) (λ a b t c d. absurd (c refl)) (λ a b t c d. never (cc))
@@ -128,7 +89,7 @@ module _ (r : List ℕ) where
           let none : place + 0 ≡ place = omega arith in
           ap (λ (m : ℕ). place + m) h
           ∙ rw (said k refl)
-          (by-kind (λ n x. (n ≡ setPlace → ⊥) → place + lengthIn x v ≡ placeAfter x v place) (λ d. refl) (λ d. none) (λ d. none) (λ d. none)
+          (by-kind r (λ n x. (n ≡ setPlace → ⊥) → place + lengthIn x v ≡ placeAfter x v place) (λ d. refl) (λ d. none) (λ d. none) (λ d. none)
           (λ d. none) (λ d. absurd (d refl)) (λ d. refl) (λ d. refl) (λ n f d. refl) k d)
 
 -- ---- no statement is longer than three bytes

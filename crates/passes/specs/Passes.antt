@@ -22,7 +22,7 @@ use Rattle.passes.specs.Walk.{Origin, begin, here, namesIn, step}
 abbrev pub Values : Type 0
 Values = List (Option ℤ)
 
--- the number of a node: "Declaration k is node k", and the root has none
+-- the number of a node: declaration k is node k, and the root has none
 abbrev pub numbered : Values → ℕ → Option ℤ
 numbered L zero = none
 numbered L (suc k) = getD L k none

@@ -53,7 +53,8 @@ unfolding triedOver
 over-inner tape nodes numbers c w p at r t-is e = at-true _ _ (sym t-is ∙ e)
 
 -- own, place and v: what the code hands to the try of a statement
-pub record Handed (tape nodes : List ℕ) (numbers : ℕ → Option ℤ) (w : Walk) (at : ℕ) (r : List ℕ) (own : Option ℤ) (place : ℤ) (v : Value) : Type 0 where
+pub record Handed (tape nodes : List ℕ) (numbers : ℕ → Option ℤ) (w : Walk) (at : ℕ) (r : List ℕ)
+    (own : Option ℤ) (place : ℤ) (v : Value) : Type 0 where
   pub outer : isInner r ≡ false
   pub own-is : own ≡ numbers (suc (w .names))
   pub place-is : place ≡ here w

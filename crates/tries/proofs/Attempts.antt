@@ -3,7 +3,7 @@ use mathlib.Core.Bool.{Bool, true, false, not}
 use mathlib.Core.List.{List, [], _∷_}
 use mathlib.Core.Option.{Option}
 use mathlib.Core.Path.{_≡_, refl, sym, ap, _∙_}
-use Prim.Native.Nat.{ℕ, _%_}
+use Prim.Native.Nat.{ℕ}
 use native.Mathlib.Nat.{mod-eq-of-lt}
 use native.Mathlib.Omega.{arith}
 use lib.Dec.{eqb}
@@ -28,7 +28,7 @@ use Rattle.evaluator.specs.declared.Value.the-variants as came
 use Rattle.evaluator.specs.Expression.{Value, Number, Unresolved, Refuses}
 use Rattle.evaluator.specs.Says.{saysValue}
 use Rattle.passes.specs.Walk.{isPlace}
-use Rattle.passes.proofs.Records.{whatBy, by-kind}
+use Rattle.form.proofs.Said.{whatBy, by-kind}
 use Rattle.tries.specs.declared.Compares.{Compares}
 use Rattle.tries.specs.Try.{given, compared, instructionOf, tryOf}
 
@@ -42,10 +42,12 @@ module _ (r : List ℕ) {k : ℕ} (is : k ≡ getD r 0 0) where
 
   module _ (no-instruction : k ≡ instruction → ⊥) where
     -- the last of those without an expression
-    what-screen : (k ≡ label → ⊥) → (k ≡ openScope → ⊥) → (k ≡ closeScope → ⊥) → isFollowed (whatOf r) ≡ false → Screen (getD r 1 0) ≡ whatOf r
+    what-screen : (k ≡ label → ⊥) → (k ≡ openScope → ⊥) → (k ≡ closeScope → ⊥) → isFollowed (whatOf r) ≡ false
+        → Screen (getD r 1 0) ≡ whatOf r
     what-screen a b d h =
         by-kind r
-        (λ n x. (n ≡ instruction → ⊥) → (n ≡ label → ⊥) → (n ≡ openScope → ⊥) → (n ≡ closeScope → ⊥) → isFollowed x ≡ false → Screen (getD r 1 0) ≡ x)
+        (λ n x. (n ≡ instruction → ⊥) → (n ≡ label → ⊥) → (n ≡ openScope → ⊥) → (n ≡ closeScope → ⊥) → isFollowed x ≡ false
+        → Screen (getD r 1 0) ≡ x)
         (λ i a b d h. absurd (i refl)) (λ i a b d h. absurd (b refl)) (λ i a b d h. absurd (d refl)) (λ i a b d h. absurd (a refl))
         (λ i a b d h. never (cc)) (λ i a b d h. never (cc)) (λ i a b d h. never (cc)) (λ i a b d h. never (cc)) (λ n f i a b d h. refl)
         k no-instruction a b d (ap isFollowed (what-by k refl) ∙ h)
@@ -95,6 +97,11 @@ module _ (c : Compares) (own : Option ℤ) (place : ℤ) (at : ℕ) where
 
       pub refuses : {v : Val.Value} (n i : ℕ) → v ≡ came.Refused n i → Fault n at ≡ answer v
       refuses n i e = followed-stops x h (Refuses n i) n (λ f. refl) ∙ sym (ap answer e)
+
+    -- without an expression: p is the place that was handed on
+    pub at-place : (v : Value) {p : ℤ} → p ≡ place → {a : AnswerAt Code} → a ≡ At.mapped code (tryOf c own p at x v)
+        → a ≡ At.mapped code (tryOf c own place at x v)
+    at-place v e h = h ∙ ap (λ (p : ℤ). At.mapped code (tryOf c own p at x v)) e
 
     pub is-number : {v : Val.Value} {p y z : ℤ} → p ≡ place → y ≡ z → v ≡ came.Number z → {a : AnswerAt Code}
         → a ≡ At.mapped code (tryOf c own p at x (Number y)) → a ≡ answer v

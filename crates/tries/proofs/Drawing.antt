@@ -4,13 +4,11 @@ use mathlib.Core.List.{List, [], _∷_}
 use mathlib.Core.Option.{Option}
 use mathlib.Core.Path.{_≡_, refl, sym, ap, _∙_}
 use Prim.Native.Nat.{ℕ, zero, suc, _+_, _≤_}
-use native.Mathlib.Omega.{arith}
-use lib.Dec.{eqb}
 use lib.IntN.{ℤ}
 use lib.ListN.{length, take}
 use lib.Seq.{length-take-le}
 use borrow.Author.Tests.{eq-eqb, ne-eqb}
-use Rattle.refusals.specs.Answer.{Answer, Done, Refused, mapped, andThen, pick}
+use Rattle.refusals.specs.Answer.{Answer, Done, Refused, mapped, andThen}
 use Rattle.refusals.specs.AnswerAt as At
 use Rattle.refusals.specs.AnswerAt.{AnswerAt, Fine, Fault}
 use Rattle.refusals.specs.declared.Outcome.{Outcome}
@@ -39,7 +37,8 @@ drawn-by : (o : Outcome) (p : Page) → drawnBy o p ≡ mapped (λ u. p) (says o
 drawn-by outcome.Done p = refl
 drawn-by (outcome.Refused n) p = refl
 
-left-mapped : (p : Pen) (a : Answer Pen) (image : List ℕ) → mapped (λ u. page (left p a .0) image) (left p a .1) ≡ mapped (λ q. page q image) a
+left-mapped : (p : Pen) (a : Answer Pen) (image : List ℕ)
+    → mapped (λ u. page (left p a .0) image) (left p a .1) ≡ mapped (λ q. page q image) a
 left-mapped p (Done q) image = refl
 left-mapped p (Refused n) image = refl
 
@@ -94,7 +93,7 @@ module _ (p : Page) (place : ℕ) (k : Code) where
           → saysDrawn f image ≡ drawn p place (bytesIn k)
       draw-done e f image h i =
           let yes = left-done (p .pen) (setPc (p .pen) place) (d .pen) (ap (λ (x : Pen × Answer (Unit {0})). x .0) there)
-            (sym (ap says e) ∙ ap (λ (x : Pen × Answer (Unit {0})). x .1) there) in
+          (sym (ap says e) ∙ ap (λ (x : Pen × Answer (Unit {0})). x .1) there) in
           told f (d .pen) (emit (d .pen) (p .image) (bytesIn k)) image h
           ∙ ap (λ (l : List ℕ). mapped (λ q. page q l) (emit (d .pen) (p .image) (bytesIn k))) i
           ∙ sym (draw-some ∙ ap (λ (x : Answer Pen). andThen x (emitted (bytesIn k))) yes)

@@ -19,11 +19,10 @@ use Rattle.opcodes.specs.declared.Form.{Form}
 use Rattle.opcodes.specs.Manual.{formsOf, isBranch}
 use Rattle.opcodes.specs.Encode.{lengthOf, lowFirst, takes, bytesOf, tried, encodeForms, inRange, encodeOf}
 use Rattle.opcodes.specs.Branch.{distanceOf}
-use Rattle.opcodes.proofs.Encoding.{length-lowFirst, length-bytesOf}
+use Rattle.opcodes.proofs.Encoding.{length-bytesOf}
 use Rattle.opcodes.proofs.Single.{branch-single, implied-single}
 use Rattle.text_encoding.specs.Petscreen.{petscreenOf}
 use Rattle.tape.specs.Kinds.{setPlace}
-use Rattle.form.specs.Form.{declares}
 use Rattle.form.specs.Statements.{What, Instruction, Open, Close, Label, Constant, SetPlace, Byte, Word, Screen, whatOf, placed}
 use Rattle.evaluator.specs.Expression.{Value, Number, Unresolved, Refuses}
 use Rattle.passes.specs.declared.Walk.{Walk}

@@ -5,4 +5,6 @@ pub mod Drawing
 pub mod Lengths
 pub mod Advancing
 pub mod Walking
+pub mod Numbers
 pub mod Writing
+pub mod Unique

@@ -1,11 +1,10 @@
 -- The parts of a try: the number in the list, what is compared, places, and the bytes of an instruction. Assumes nothing.
-use mathlib.Core.Bool.{Bool, true, false, not, _||_}
+use mathlib.Core.Bool.{Bool, true, false, not}
 use mathlib.Core.List.{List, []}
-use mathlib.Core.Option.{Option, none, some}
-use mathlib.Core.Path.{_≡_, refl, sym, ap, _∙_}
+use mathlib.Core.Option.{none, some}
+use mathlib.Core.Path.{_≡_, sym, ap, _∙_}
 use Prim.Native.Nat.{ℕ, _/_, _%_, _≤_, _<_}
 use native.Mathlib.Omega.{arith}
-use lib.Dec.{eqb}
 use lib.IntN.{ℤ, pos}
 use lib.ListN.{getD}
 use lib.Signed.{ltZ}
@@ -13,7 +12,7 @@ use mir.Syntax.{w64}
 use mir.Val.{SFits, ofZ}
 use mir.Facts.{toZ-ofZ}
 use borrow.Author.Tests.{eq-eqb, ne-eqb, lt-ltb, le-ltb}
-use Rattle.refusals.specs.Answer.{Answer, Done, Refused, mapped, pick, andThen}
+use Rattle.refusals.specs.Answer.{Answer, Refused, mapped, pick, andThen}
 use Rattle.refusals.specs.AnswerAt as At
 use Rattle.refusals.specs.AnswerAt.{AnswerAt, Fine, Fault}
 use Rattle.refusals.specs.Table.{outside}

@@ -19,7 +19,7 @@ use Rattle.segment.specs.Segment.{size, begun, setPc, emit, imageAfter}
 use Rattle.segment.proofs.Kept.{set-pc-place, emit-has}
 use Rattle.tape.specs.Record.{bytesAt}
 use Rattle.tape.proofs.Records.{record-end}
-use Rattle.form.specs.Form.{maxTape, declares}
+use Rattle.form.specs.Form.{declares}
 use Rattle.form.specs.Statements.{What, Instruction, Open, Close, Label, Constant, SetPlace, Byte, Word, Screen, whatOf, isInner, isLast, statementOf, statements, statementsAt, placed}
 use Rattle.form.proofs.Statements.{not-empty, statements-past, statements-last, statements-inner, statements-one}
 use Rattle.evaluator.specs.Expression.{Value}
@@ -74,7 +74,7 @@ names-low r m = subst (λ (n : ℕ). n ≤ m + 1) (names-said r (getD r 0 0) ref
 
 module _ (reads : (ℕ → Option ℤ) → ℤ → ℕ → Value) (c : Compares) (numbers : ℕ → Option ℤ) where
   -- u: behind a record that passed
-  abbrev Low : Trying → Trying → Type 0
+  abbrev pub Low : Trying → Trying → Type 0
   Low t u = (u .walk .place ≤ 65536) × (u .walk .names ≤ t .walk .names + 1)
 
   tried-low : (t : Trying) (at : ℕ) (r : List ℕ) (u : Trying) → t .walk .place ≤ 65536
@@ -99,7 +99,7 @@ module _ (reads : (ℕ → Option ℤ) → ℤ → ℕ → Value) (c : Compares)
       go (Fine bs) is k = landed bs is (drawn (t .page) (t .walk .place) bs) refl k
       go (Fault n i) is k = never (cc)
 
-  over-low : (t : Trying) (at : ℕ) (r : List ℕ) (u : Trying) → t .walk .place ≤ 65536 → triedOver reads c numbers t at r ≡ Fine u → Low t u
+  pub over-low : (t : Trying) (at : ℕ) (r : List ℕ) (u : Trying) → t .walk .place ≤ 65536 → triedOver reads c numbers t at r ≡ Fine u → Low t u
   unfolding triedOver
   over-low t at r u h e = go (isInner r) e
     where
@@ -109,9 +109,10 @@ module _ (reads : (ℕ → Option ℤ) → ℤ → ℕ → Value) (c : Compares)
 
   -- ---- record by record
 
-  over-one : (tape : List ℕ) (at : ℕ) (t : Trying) → isLast (bytesAt tape at) ≡ false
+  pub over-one : (tape : List ℕ) (at : ℕ) (t : Trying) → isLast (bytesAt tape at) ≡ false
       → tries reads c numbers t (statementsAt tape at)
-      ≡ andThen (triedOver reads c numbers t at (bytesAt tape at)) (λ u. tries reads c numbers u (statementsAt tape (at + length (bytesAt tape at))))
+      ≡ andThen (triedOver reads c numbers t at (bytesAt tape at))
+      (λ u. tries reads c numbers u (statementsAt tape (at + length (bytesAt tape at))))
   unfolding triedOver
   over-one tape at t more = go (isInner (bytesAt tape at)) refl
     where
@@ -151,8 +152,8 @@ module _ (tape nodes : List ℕ) (numbers : ℕ → Option ℤ) (c : Compares) (
   abbrev Answers : AnswerAt (ℕ × ℕ) → List ℕ → Type 0
   Answers a image = (a ≡ At.mapped rangeOf all) × (image ≡ imageOr image all)
 
-  ended : (pen : Pen) (w : Walk) (image : List ℕ) → all ≡ Fine (trying w (page pen image)) → {a : AnswerAt (ℕ × ℕ)} → a ≡ Fine (pen .start, pen .end)
-      → Answers a image
+  ended : (pen : Pen) (w : Walk) (image : List ℕ) → all ≡ Fine (trying w (page pen image))
+      → {a : AnswerAt (ℕ × ℕ)} → a ≡ Fine (pen .start, pen .end) → Answers a image
   ended pen w image e h = (h ∙ sym (ap (At.mapped rangeOf) e), sym (ap (imageOr image) e))
 
   module _ {image₀ image : List ℕ} {pen : Pen} {w : Walk} {at : ℕ} (g : Going image₀ image pen w at) where
@@ -179,14 +180,15 @@ module _ (tape nodes : List ℕ) (numbers : ℕ → Option ℤ) (c : Compares) (
             (told : saysStepped s next ≡ triedOver (readsNoted tape nodes) c numbers (trying w (page pen image)) at r) where
           on : all ≡ andThen (saysStepped s next) (λ u. from u (at + length r))
           on =
-              g .same ∙ over-one (readsNoted tape nodes) c numbers tape at (trying w (page pen image)) (sym (l-is ∙ ap isLast is) ∙ f)
-              ∙ ap (λ (x : List ℕ). andThen (triedOver (readsNoted tape nodes) c numbers (trying w (page pen image)) at x) (λ u. from u (at + length x))) (sym is)
+              let t = trying w (page pen image) in
+              g .same ∙ over-one (readsNoted tape nodes) c numbers tape at t (sym (l-is ∙ ap isLast is) ∙ f)
+              ∙ ap (λ (x : List ℕ). andThen (triedOver (readsNoted tape nodes) c numbers t at x) (λ u. from u (at + length x))) (sym is)
               ∙ ap (λ (a : AnswerAt Trying). andThen a (λ u. from u (at + length r))) (sym told)
 
           pub going-refused : (n i : ℕ) → s .answer ≡ outcomeAt.Refused n i → {a : AnswerAt (ℕ × ℕ)} → a ≡ Fault n i → Answers a next
           going-refused n i e h =
               let fault : all ≡ Fault n i =
-                  on ∙ ap (λ (o : OutcomeAt). andThen (steppedBy o (trying (s .walk) (page (s .pen) next))) (λ u. from u (at + length r))) e in
+              on ∙ ap (λ (o : OutcomeAt). andThen (steppedBy o (trying (s .walk) (page (s .pen) next))) (λ u. from u (at + length r))) e in
               (h ∙ sym (ap (At.mapped rangeOf) fault), sym (ap (imageOr next) fault))
 
           pub going-on : s .answer ≡ outcomeAt.Done → length next ≡ length image → Going image₀ next (s .pen) (s .walk) (at + length r)

@@ -5,8 +5,8 @@ use mathlib.Core.List.{List, [], _∷_}
 use mathlib.Core.Option.{Option}
 use lib.Dec.{eqb}
 use lib.IntN.{ℤ}
-use lib.ListN.{getD, take}
-use Rattle.refusals.specs.Answer.{Answer, Done, Refused, pick, mapped}
+use lib.ListN.{take}
+use Rattle.refusals.specs.Answer.{Answer, Done, Refused, pick}
 use Rattle.refusals.specs.AnswerAt.{AnswerAt, Fine, Fault}
 use Rattle.refusals.specs.declared.Outcome as O
 use Rattle.refusals.specs.declared.Outcome.the-variants as outcome

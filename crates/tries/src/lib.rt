@@ -27,7 +27,6 @@ ghost use mathlib.Core.Bool.{true, false};
 ghost use mathlib.Core.List.{[], _∷_};
 ghost use mathlib.Core.Path.{_≡_};
 ghost use Prim.Native.Nat.{_+_, _≤_, _<_, suc};
-ghost use lib.IntN.{pos};
 ghost use lib.ListN.{length, getD, replicate};
 ghost use Rattle.refusals.specs.Answer.{pick, mapped};
 ghost use Rattle.refusals.specs.AnswerAt as At;
@@ -36,7 +35,7 @@ ghost use Rattle.refusals.specs.Table.{outside};
 ghost use Rattle.segment.specs.Segment.{size, begun};
 ghost use Rattle.symbols.specs.Says.{saysData};
 ghost use Rattle.form.specs.Form.{maxTape};
-ghost use Rattle.form.specs.Statements.{whatOf, isInner, isFollowed, statements, placed};
+ghost use Rattle.form.specs.Statements.{whatOf, isFollowed, statements, placed};
 ghost use Rattle.opcodes.specs.Encode.{code, lowFirst, encodeOf};
 ghost use Rattle.opcodes.specs.Says.{saysEncoded};
 ghost use Rattle.evaluator.specs.Expression as E;
@@ -88,7 +87,8 @@ pub fn write<'a>(
     ensures { λ r. ⌜ (saysWritten r
         ≡ At.mapped rangeOf (writeOf (now (tape .entry)) (now (nodes .entry)) numbers initial compares (length (now (image .entry)))))
         × (now (image .exit)
-        ≡ imageOr (now (image .entry)) (writeOf (now (tape .entry)) (now (nodes .entry)) numbers initial compares (length (now (image .entry))))) ⌝ }
+        ≡ imageOr (now (image .entry))
+        (writeOf (now (tape .entry)) (now (nodes .entry)) numbers initial compares (length (now (image .entry))))) ⌝ }
 {
     if LONGEST < tape.len() {
         return refused(ARGUMENT, 0);
@@ -100,7 +100,15 @@ pub fn write<'a>(
         return refused(ARGUMENT, 0);
     }
     let mut scratch = [0u8; SIZE];
-    match draw_all(tape, nodes, &numbers.known, &numbers.number, initial, compares, &mut scratch) {
+    match draw_all(
+        tape,
+        nodes,
+        &numbers.known,
+        &numbers.number,
+        initial,
+        compares,
+        &mut scratch,
+    ) {
         Written::Refused { number, at } => refused(number, at),
         Written::Range { start, end } => {
             copy(image, &scratch);
@@ -155,7 +163,18 @@ fn draw_all<'a>(
         if form::is_last(rec) {
             return range(pen);
         }
-        let stepped = advance(tape, nodes, known, number, compares, pen, walk, rec, at, image);
+        let stepped = advance(
+            tape,
+            nodes,
+            known,
+            number,
+            compares,
+            pen,
+            walk,
+            rec,
+            at,
+            image,
+        );
         let answer = stepped.answer;
         match answer {
             OutcomeAt::Refused { number: n, at: i } => return refused(n, i),
@@ -249,7 +268,15 @@ fn own_number<'a>(known: &'a [bool; NODES], number: &'a [i64; NODES], names: usi
 }
 
 // Draws the bytes of a statement that passed, and moves the walk behind it.
-fn put(pen: Pen, walk: Walk, kind: u8, at: usize, value: Value, code: Code, image: &mut [u8]) -> Stepped
+fn put(
+    pen: Pen,
+    walk: Walk,
+    kind: u8,
+    at: usize,
+    value: Value,
+    code: Code,
+    image: &mut [u8],
+) -> Stepped
     requires { ⌜ (walk .place ≤ size) × (walk .names < size) × (code .len ≤ 3) ⌝ }
     ensures { λ r. ⌜ saysStepped r (now (image .exit))
         ≡ At.mapped (λ p. trying (walkBehind walk kind (saysValue value) (code .len)) p)
@@ -304,7 +331,11 @@ fn behind(walk: Walk, kind: u8, value: Value, len: usize) -> Walk
 {
     Walk {
         place: place_behind(kind, value, walk.place, len),
-        names: if form::declares(kind) { walk.names + 1 } else { walk.names },
+        names: if form::declares(kind) {
+            walk.names + 1
+        } else {
+            walk.names
+        },
     }
 }
 
@@ -339,7 +370,8 @@ fn attempt(compares: Compares, own: Data, place: i64, rec: &[u8], at: usize, val
 // A statement without an expression.
 fn attempt_alone(compares: Compares, own: Data, place: i64, rec: &[u8], at: usize) -> Tried
     requires { ⌜ isFollowed (whatOf (now rec)) ≡ false ⌝ }
-    ensures { λ r. ⌜ ((v : E.Value) → saysTried r ≡ At.mapped code (tryOf compares (saysData own) place at (whatOf (now (rec .entry))) v)) ⌝ }
+    ensures { λ r. ⌜ ((v : E.Value) → saysTried r
+        ≡ At.mapped code (tryOf compares (saysData own) place at (whatOf (now (rec .entry))) v)) ⌝ }
 {
     let kind = little::u8_at(rec, 0);
     if kind == INSTRUCTION {
@@ -480,7 +512,11 @@ fn instruction(rec: &[u8], place: i64, z: i64) -> Encoded
     ensures { λ r. ⌜ saysEncoded r
         ≡ mapped code (instructionOf (getD (now (rec .entry)) 1 0) (getD (now (rec .entry)) 2 0) (getD (now (rec .entry)) 3 0) place z) ⌝ }
 {
-    if !opcodes::is_branch(little::u8_at(rec, 1), little::u8_at(rec, 2), little::u8_at(rec, 3)) {
+    if !opcodes::is_branch(
+        little::u8_at(rec, 1),
+        little::u8_at(rec, 2),
+        little::u8_at(rec, 3),
+    ) {
         return encode(rec, z);
     }
     match opcodes::distance_of(place, z) {

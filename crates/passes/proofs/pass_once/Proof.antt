@@ -3,7 +3,6 @@ use mathlib.Core.Path.{ap, _∙_}
 use Rattle.refusals.proofs.Pick.{granted, passed, stopped}
 use Rattle.passes.specs.Settle.{left, passOnce}
 use Rattle.refusals.specs.AnswerAt.{Fine}
-use borrow.Author.Needs.{needs}
 use Rattle.passes.proofs.pass_once.Statement.{statement}
 use Rattle.passes.proofs.pass_once.Tie as tie
 

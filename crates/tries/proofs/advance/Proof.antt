@@ -17,8 +17,9 @@ use Rattle.tries.proofs.advance.Tie as tie
 -- what is handed to the try
 handed : (c : tie.After-attempt)
     → let args = c .before .before .before .before .before .before .before .before .before .before .args in
-    Handed (now (args .tape)) (now (args .nodes)) (numbersIn (now (args .known)) (now (args .number))) (args .walk) (args .at) (now (args .rec))
-    (saysData (c .before .own-number .result)) (toZ w64 (args .walk .place)) (saysValue (c .before .before .value-of .result))
+    Handed (now (args .tape)) (now (args .nodes)) (numbersIn (now (args .known)) (now (args .number))) (args .walk) (args .at)
+    (now (args .rec)) (saysData (c .before .own-number .result)) (toZ w64 (args .walk .place))
+    (saysValue (c .before .before .value-of .result))
 handed c =
     let came = c .before .before in
     let asked = came .before .before in
@@ -65,7 +66,8 @@ put-requires c κs =
     let told = c .before .before .before in
     let tried = told .before .before in
     let s = tried .before .before .before .before .before .before .before .before .before .before in
-    (s .pre .0, s .pre .1, over-short (handed tried) (s .args .compares) _ (sym (ap saysTried (told .code .given .1)) ∙ tried .attempt .ensures))
+    let passed = sym (ap saysTried (told .code .given .1)) ∙ tried .attempt .ensures in
+    (s .pre .0, s .pre .1, over-short (handed tried) (s .args .compares) _ passed)
 
 returns-2 : tie.Need-returns-2
 returns-2 c =

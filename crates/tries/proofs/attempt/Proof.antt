@@ -1,17 +1,12 @@
 -- Without an expression, or by what it comes to. Assumes nothing.
-use mathlib.Core.Path.{refl, sym, ap, _∙_}
-use lib.IntN.{ℤ}
 use mir.Syntax.{w64}
 use mir.Val.{SFits}
 use mir.Facts.{toZ-ofZ}
-use Rattle.refusals.specs.AnswerAt as At
 use Rattle.refusals.proofs.Pick.{granted, denied}
-use Rattle.opcodes.specs.Encode.{code}
 use Rattle.form.specs.Statements.{whatOf}
 use Rattle.symbols.specs.Says.{saysData}
 use Rattle.evaluator.specs.Says.{saysValue}
-use Rattle.tries.specs.Try.{tryOf}
-use Rattle.tries.proofs.Attempts.{not-resolved, refuses, is-number}
+use Rattle.tries.proofs.Attempts.{at-place, not-resolved, refuses, is-number}
 use borrow.Author.Needs.{needs}
 use Rattle.tries.proofs.attempt.Statement.{statement}
 use Rattle.tries.proofs.attempt.Tie as tie
@@ -26,9 +21,8 @@ returns : tie.Need-returns
 returns c =
     let s = c .before .before .before .before in
     let args = s .args in
-    c .attempt-alone .ensures (saysValue (args .value))
-    ∙ ap (λ (p : ℤ). At.mapped code (tryOf (args .compares) (saysData (args .own)) p (args .at) (whatOf (args .rec .now)) (saysValue (args .value))))
-    (toZ-ofZ (s .fits .place))
+    at-place (args .compares) (saysData (args .own)) (args .place) (args .at) (whatOf (args .rec .now)) (saysValue (args .value))
+    (toZ-ofZ (s .fits .place)) (c .attempt-alone .ensures (saysValue (args .value)))
 
 enum-told : tie.Need-enum-told
 enum-told c = search needs

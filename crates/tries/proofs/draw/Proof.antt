@@ -47,8 +47,8 @@ returns-3 c =
     let there = told .before .before in
     let args = there .before .before .before .before .args in
     let emitted = c .before .before .emit in
-    draw-done _ (args .place) (args .code) (there .before .if1 .left) _ (there .set-pc .ensures) (told .enum-told2 .given .1) (emitted .result) _
-    (emitted .ensures .0) (emitted .ensures .1)
+    draw-done _ (args .place) (args .code) (there .before .if1 .left) _ (there .set-pc .ensures) (told .enum-told2 .given .1)
+    (emitted .result) _ (emitted .ensures .0) (emitted .ensures .1)
 
 pub draw-spec : {M : Type 1} → statement M
 draw-spec =

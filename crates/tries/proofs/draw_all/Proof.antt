@@ -1,5 +1,5 @@
 -- What each turn keeps, and the answer at each way out; the measure is what is left of the tape. Assumes nothing.
-use mathlib.Core.Path.{sym, _∙_}
+use mathlib.Core.Path.{_∙_}
 use Prim.Native.Nat.{_-_}
 use native.Mathlib.Omega.{arith}
 use lib.ListN.{length}

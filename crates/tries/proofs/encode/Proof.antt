@@ -21,7 +21,8 @@ returns : tie.Need-returns
 returns c =
     let s = c .before in
     let m = s .before .before in
-    encode-is (m .u8-at .ensures) (s .before .u8-at2 .ensures) (s .u8-at3 .ensures) (toZ-ofZ (m .before .before .fits .operand)) (c .encode .ensures)
+    encode-is (m .u8-at .ensures) (s .before .u8-at2 .ensures) (s .u8-at3 .ensures) (toZ-ofZ (m .before .before .fits .operand))
+    (c .encode .ensures)
 
 pub encode-spec : {M : Type 1} → statement M
 encode-spec =

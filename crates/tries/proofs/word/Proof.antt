@@ -1,8 +1,7 @@
 -- The low byte comes first. Assumes nothing.
 use mathlib.Core.Path.{ap}
-use native.Mathlib.Omega.{arith}
 use Rattle.opcodes.specs.declared.Code.{Code}
-use Rattle.refusals.specs.AnswerAt.{AnswerAt, Fine}
+use Rattle.refusals.specs.AnswerAt.{Fine}
 use Rattle.tries.proofs.Parts.{word-code}
 use borrow.Author.Needs.{needs}
 use Rattle.tries.proofs.word.Statement.{statement}

@@ -50,8 +50,8 @@ returns-4 c =
     let number = c .before .before in
     let drawn = number .before .before .before in
     let asked = drawn .before .before .before .before .before in
-    write-refused _ _ _ _ _ _ (asked .before .before .if1 .left) (asked .before .if2 .left) (asked .if3 .left) _ (drawn .draw-all .ensures .0)
-    _ _ (number .number .given .1) (c .refused4 .ensures)
+    write-refused _ _ _ _ _ _ (asked .before .before .if1 .left) (asked .before .if2 .left) (asked .if3 .left) _
+    (drawn .draw-all .ensures .0) _ _ (number .number .given .1) (c .refused4 .ensures)
 
 same-length : tie.Need-same-length
 same-length c = search needs
