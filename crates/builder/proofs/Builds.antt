@@ -1,17 +1,15 @@
 -- A build by what is noted is the build by what query finds, and numbers that stand in arrays give the same build and the same list.
 -- Assumes nothing.
-use mathlib.Core.Bool.{true}
 use mathlib.Core.List.{List, [], _∷_, _++_, map}
 use mathlib.Core.Option.{Option}
 use mathlib.Core.Path.{_≡_, refl, sym, ap, _∙_, subst}
 use Prim.Native.Nat.{ℕ, zero, suc, _-_, _≤_, _<_}
 use native.Mathlib.Omega.{arith}
 use lib.IntN.{ℤ, pos}
-use lib.ListN.{length, getD, drop, replicate, length-map}
+use lib.ListN.{length, getD, drop, replicate}
 use borrow.Author.Tests.{le-leb, lt-ltb, eq-eqb}
 use Rattle.refusals.specs.AnswerAt.{AnswerAt, Fine, Fault, mapped, andThen}
 use Rattle.refusals.proofs.Never.{never}
-use Rattle.symbols.specs.Edges.{maxNodes}
 use Rattle.symbols.specs.Symbols.{numberOr0}
 use Rattle.segment.specs.Segment.{size}
 use Rattle.form.specs.Form.{maxTape}
@@ -23,7 +21,7 @@ use Rattle.passes.specs.declared.Passes.the-variants as after
 use Rattle.passes.specs.Walk.{Origin, origin, here, namesIn}
 use Rattle.passes.specs.Passes.{Values, numbered, declarations, settled}
 use Rattle.passes.specs.Settle as S
-use Rattle.passes.specs.Settle.{filled, numbersIn, numbersBy, readsNoted, settleOf, saysPasses}
+use Rattle.passes.specs.Settle.{filled, numbersBy, readsNoted, settleOf, saysPasses}
 use Rattle.passes.proofs.Agrees.{Alike, settled-alike}
 use Rattle.passes.proofs.Columns.{by-node}
 use Rattle.passes.proofs.Counting.{allowed-by}
@@ -134,7 +132,7 @@ abbrev fineOr : {A : Type 0} → A → AnswerAt A → A
 fineOr d (Fine a) = a
 fineOr d (Fault n at) = d
 
-fine-is : {A : Type 0} (d : A) {a b : A} → Fine a ≡ Fine b → a ≡ b
+pub fine-is : {A : Type 0} (d : A) {a b : A} → Fine a ≡ Fine b → a ≡ b
 fine-is d e = ap (fineOr d) e
 
 pub fault-is : {A B : Type 0} {m at n i : ℕ} → _≡_ {A = AnswerAt A} (Fault m at) (Fault n i) → _≡_ {A = AnswerAt B} (Fault m at) (Fault n i)

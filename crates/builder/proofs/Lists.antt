@@ -1,28 +1,28 @@
 -- The number list, record by record; and that numbers by node give the same list. Assumes nothing.
 use mathlib.Core.Bool.{Bool, true, false, _||_, true≢false}
-use mathlib.Core.List.{List, [], _∷_, _++_, map, append-assoc, append-nil}
+use mathlib.Core.List.{List, [], _∷_, _++_, append-assoc, append-nil}
 use mathlib.Core.Path.{_≡_, refl, sym, ap, _∙_, subst}
-use Prim.Native.Nat.{ℕ, zero, suc, _+_, _-_, _≤_, _<_}
-use native.Mathlib.Numerals.{add-one}
+use Prim.Native.Nat.{ℕ, _+_, _-_, _≤_, _<_}
 use native.Mathlib.Omega.{arith}
-use lib.Dec.{eqb, ltb}
+use lib.Dec.{eqb}
 use lib.IntN.{ℤ, pos}
 use lib.ListN.{length, getD, set, drop, replicate, length-append, length-replicate}
-use lib.Seq.{drop-drop, getD-drop}
-use borrow.Author.Tests.{ne-eqb, ltb-true}
+use lib.Seq.{drop-drop}
 use Rattle.refusals.specs.Answer.{pick}
-use Rattle.refusals.proofs.Pick.{at-true, at-false}
+use Rattle.refusals.proofs.Pick.{at-false}
 use Rattle.refusals.proofs.Never.{never}
 use Rattle.tape.specs.Kinds.{openScope, label, constant}
 use Rattle.tape.specs.Record.{bytesAt}
 use Rattle.tape.proofs.Records.{record-end}
 use Rattle.form.specs.Form.{declares}
-use Rattle.form.specs.Statements.{What, whatOf, Statement, isLast, isInner, statementOf, statementsAt, statements}
+use Rattle.form.specs.Statements.{whatOf, Statement, isLast, isInner, statementOf, statementsAt, statements}
 use Rattle.form.proofs.Said.{said, by-kind}
-use Rattle.form.proofs.Statements.{statements-past, statements-last, statements-inner, statements-one}
+use Rattle.form.proofs.Statements.{statements-inner, statements-one}
 use Rattle.passes.specs.Walk.{namesIn}
 use Rattle.passes.specs.Passes.{declarations}
 use Rattle.passes.specs.Settle.{filled}
+use Rattle.passes.proofs.Columns.{fill-next}
+use Rattle.passes.proofs.Counting.{inner-none}
 use Rattle.builder.specs.Build.{listed, numberList}
 use Rattle.builder.specs.Steps.{isNumbered}
 
@@ -36,13 +36,6 @@ numbered-declares n e = go (eqb n openScope) (eqb n label) (eqb n constant) e
     go : (a b c : Bool) → (a || b || c) ≡ false → (b || c) ≡ false
     go true b c e = never (cc)
     go false b c e = e
-
--- a record of an expression declares nothing
-inner-declares : (r : List ℕ) (k : ℕ) → k ≡ getD r 0 0 → isInner r ≡ true → declares k ≡ false
-unfolding declares
-inner-declares r k is e =
-    let low : k < 64 = ltb-true k 64 (ap (λ (n : ℕ). ltb n 64) is ∙ e) in
-    rw (ne-eqb k openScope (λ p. omega arith), ne-eqb k label (λ p. omega arith), ne-eqb k constant (λ p. omega arith))
 
 module _ (r : List ℕ) (k : ℕ) (is : k ≡ getD r 0 0) where
   -- a label or a constant adds the number of its name, and nothing else does
@@ -58,19 +51,6 @@ module _ (r : List ℕ) (k : ℕ) (is : k ≡ getD r 0 0) where
   names-said =
       rw (said r k is)
       (by-kind r (λ n x. namesIn x ≡ pick (declares n) 1 0) refl refl refl refl refl refl refl refl (λ n e. at-false 1 0 e) k)
-
--- ---- one more, where others fill the rest
-
-set-first : {A : Type 0} (l m : List A) (a x : A) → set (l ++ a ∷ m) (length l) x ≡ l ++ x ∷ m
-set-first [] m a x = refl
-set-first (b ∷ l) m a x = ap (λ (k : List _). b ∷ k) (set-first l m a x)
-
-filled-on : {A : Type 0} (n : ℕ) (a : A) (l : List A) (x : A) → length l < n → set (filled n a l) (length l) x ≡ filled n a (l ++ x ∷ [])
-filled-on n a l x h =
-    let free : n - length l ≡ suc (n - length (l ++ x ∷ [])) = omega (arith, length-append l (x ∷ [])) in
-    ap (λ (k : ℕ). set (l ++ replicate k a) (length l) x) free
-    ∙ set-first l (replicate (n - length (l ++ x ∷ [])) a) a x
-    ∙ sym (append-assoc l (x ∷ []) (replicate (n - length (l ++ x ∷ [])) a))
 
 -- ---- the loop: what is done, then the list from here, is the whole list
 
@@ -127,7 +107,7 @@ module _ (tape : List ℕ) (l : List ℤ) where
         where
           go : (t : Bool) → isInner r ≡ t → Adds (isNumbered k) (declares k)
           go true e =
-              let none = inner-declares r k kind e in
+              let none : declares k ≡ false = ap declares kind ∙ inner-none r e in
               let same : statementsAt tape at ≡ statementsAt tape next =
               statements-inner tape at last (ap isInner (sym is) ∙ e) ∙ ap (λ (x : List ℕ). statementsAt tape (at + length x)) (sym is) in
               rw (none, numbered-declares k none, same) (refl, omega arith)
@@ -163,7 +143,7 @@ module _ (tape : List ℕ) (l : List ℤ) where
             many = omega (arith, g .many, length-append (g .done) (v ∷ []));
             is =
                 (λ i. set (g .is i) (g .many i) v)
-                ∙ filled-on 1024 (pos 0) (g .done) v below;
+                ∙ fill-next 1024 (pos 0) v (g .done) below;
             few = omega (arith, g .few);
             room = omega (arith, g .room, a .1);
           }

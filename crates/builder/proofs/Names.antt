@@ -1,7 +1,7 @@
 -- What the names of a tape answer, and that the build behind them is the build by their notes. Assumes nothing.
-use mathlib.Core.Bool.{Bool, true, false, _&&_, and-eq-true-iff}
+use mathlib.Core.Bool.{true, _&&_, and-eq-true-iff}
 use mathlib.Core.List.{List, [], _∷_}
-use mathlib.Core.Path.{_≡_, refl, sym, ap, _∙_, subst}
+use mathlib.Core.Path.{_≡_, refl, sym, ap, _∙_}
 use Prim.Native.Nat.{ℕ, _+_, _≤_, _<_}
 use native.Mathlib.Omega.{arith}
 use lib.Dec.{eqb, leb}
@@ -17,14 +17,14 @@ use Rattle.symbols.specs.Edges.{maxNodes}
 use Rattle.segment.specs.Segment.{size}
 use Rattle.form.specs.Form.{maxTape}
 use Rattle.form.specs.Statements.{What, Instruction, Open, Close, Label, Constant, SetPlace, Byte, Word, Screen, Statement, statements}
-use Rattle.names.specs.Scopes.{Scopes, outermost, scopesAfter, scopesBehind, scopeAt}
+use Rattle.names.specs.Scopes.{Scopes, outermost, scopesAfter, scopesBehind}
 use Rattle.names.specs.Names.{left, namesOf, declareOf, notesAfter}
 use Rattle.names.proofs.Kept.{declared-count, notes-are}
 use Rattle.passes.specs.Walk.{Origin, namesIn}
 use Rattle.passes.specs.Passes.{declarations}
 use Rattle.passes.specs.Settle.{readsNoted}
 use Rattle.builder.specs.Reads.{readsOn}
-use Rattle.builder.specs.Build.{Build, builtBy, built}
+use Rattle.builder.specs.Build.{builtBy, built}
 use Rattle.builder.specs.Call.{isAllowed, workPlaces}
 use Rattle.builder.proofs.Reading.{all-alike}
 use Rattle.builder.proofs.Builds.{fault-is, built-alike}

@@ -11,7 +11,7 @@ use lib.Dec.{ltb}
 use lib.IntN.{ℤ}
 use lib.ListN.{length, getD, drop}
 use borrow.Author.Tests.{le-leb, lt-ltb}
-use Rattle.refusals.specs.Answer.{Answer, Done, pick}
+use Rattle.refusals.specs.Answer.{Done, pick}
 use Rattle.refusals.specs.AnswerAt.{Fine}
 use Rattle.refusals.specs.Each.{Each}
 use Rattle.symbols.specs.declared.SymbolTable.{SymbolTable}
@@ -25,7 +25,7 @@ use Rattle.lookup.specs.Lookup.{pathOf, nodeOf}
 use Rattle.lookup.specs.Notes.{onward, NameAt, noted, Resolved}
 use Rattle.lookup.proofs.Notes.{onward-onward, onward-one}
 use Rattle.lookup.proofs.Paths.{length-path}
-use Rattle.evaluator.specs.Expression.{Value, Meaning, expression}
+use Rattle.evaluator.specs.Expression.{Meaning, expression}
 use Rattle.evaluator.proofs.Along.{expression-agrees}
 use Rattle.names.specs.Scopes.{Scopes, outermost, scopeOf, scopesAfter, scopesBehind, before, scopeAt}
 use Rattle.names.specs.Names.{namesOf}

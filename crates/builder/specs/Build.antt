@@ -18,7 +18,7 @@ use Rattle.builder.specs.Reads.{readsOn}
 
 -- ---- the number list
 
--- of the numbers from a statement's name on, those that go into the list: "one number per label or constant"
+-- of the numbers from a statement's name on, those that go into the list: a label's and a constant's
 abbrev pub listed : What → List ℤ → List ℤ
 listed (Label id) l = getD l 0 (pos 0) ∷ []
 listed (Constant id) l = getD l 0 (pos 0) ∷ []

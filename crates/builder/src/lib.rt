@@ -38,13 +38,21 @@ pub const WORK: usize = 65536;
 // A finished build: where what is written starts and ends, how many numbers the list has, and how many passes there were. Or the
 // refusal.
 pub enum Built {
-    Finished { start: usize, end: usize, numbers: usize, passes: usize },
-    Refused { number: u8, at: usize },
+    Finished {
+        start: usize,
+        end: usize,
+        numbers: usize,
+        passes: usize,
+    },
+    Refused {
+        number: u8,
+        at: usize,
+    },
 }
 
 // Builds a tape from an initial place.
-pub fn build<'a>(
-    tape: &'a [u8],
+pub fn build(
+    tape: &[u8],
     initial: usize,
     image: &mut [u8],
     numbers: &mut [i64],
@@ -215,7 +223,13 @@ fn fill_list<'a>(tape: &'a [u8], number: &'a [i64; NODES], list: &mut [i64]) -> 
 }
 
 // The list with one number more, where a record of this kind is a label or a constant; and how many it has then.
-fn listed<'a>(kind: u8, number: &'a [i64; NODES], names: usize, list: &mut [i64], count: usize) -> usize
+fn listed<'a>(
+    kind: u8,
+    number: &'a [i64; NODES],
+    names: usize,
+    list: &mut [i64],
+    count: usize,
+) -> usize
     requires { ⌜ (isNumbered kind ≡ true → names + 1 < maxNodes) × (count < length (now list)) ⌝ }
     ensures { λ r. ⌜ (r ≡ pick (isNumbered kind) (count + 1) count)
         × (now (list .exit) ≡ pick (isNumbered kind) (set (now (list .entry)) count (getD (now (number .entry)) (names + 1) (pos 0))) (now (list .entry))) ⌝ }
@@ -242,5 +256,9 @@ fn names_after(names: usize, kind: u8) -> usize
     requires { ⌜ names < maxNodes ⌝ }
     ensures { λ r. ⌜ r ≡ pick (declares kind) (names + 1) names ⌝ }
 {
-    if form::declares(kind) { names + 1 } else { names }
+    if form::declares(kind) {
+        names + 1
+    } else {
+        names
+    }
 }

@@ -77,7 +77,7 @@ loop-again c =
     let number = turn .before .before .args .number .now in
     let here = sym (getD-drop (turn .loop .names) (drop 1 number) 0 (pos 0) ∙ getD-drop 1 number (turn .loop .names + 0) (pos 0)) in (
       listing-on _ _ (turn .loop .inv .0) (found .«record» .ensures) (sym (more .before .is-last .ensures) ∙ more .if1 .left) _ (read .u8-at .ensures)
-      (ap (λ (n : ℕ). getD number n (pos 0)) (omega arith) ∙ here) (listed .listed .ensures .1) (listed .listed .ensures .0) (c .names-after .ensures),
+          (ap (λ (n : ℕ). getD number n (pos 0)) (omega arith) ∙ here) (listed .listed .ensures .1) (listed .listed .ensures .0) (c .names-after .ensures),
       within _ _ (found .«record» .ensures) (turn .loop .inv .1),
       c .before .list .given ∙ turn .loop .inv .2,
     )

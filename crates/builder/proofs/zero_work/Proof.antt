@@ -2,7 +2,6 @@
 use mathlib.Core.Path.{_≡_, refl}
 use Prim.Native.Nat.{_-_, _≤_}
 use native.Mathlib.Omega.{arith}
-use lib.IntN.{pos}
 use lib.ListN.{length, length-set}
 use Rattle.refusals.proofs.Memory.{filled, filled-none, filled-more, filled-whole}
 use borrow.Author.Needs.{needs}

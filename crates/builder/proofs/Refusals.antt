@@ -1,0 +1,119 @@
+-- A build whose arguments are in their ranges is refused with one of the numbers listed for it; so a 1 is for arguments alone.
+-- Assumes nothing.
+use mathlib.Core.Bool.{Bool, true, false}
+use mathlib.Core.List.{List, _∷_}
+use mathlib.Core.Option.{Option, none, some}
+use mathlib.Core.Path.{_≡_, refl, subst}
+use Prim.Native.Nat.{ℕ, _≤_, _<_}
+use native.Mathlib.Omega.{arith}
+use lib.IntN.{ℤ}
+use lib.ListN.{length}
+use Rattle.refusals.specs.Answer.{pick}
+use Rattle.refusals.specs.AnswerAt.{AnswerAt, Fine, Fault, mapped}
+use Rattle.refusals.specs.Table.{argument}
+use Rattle.refusals.proofs.Never.{never}
+use Rattle.symbols.specs.declared.SymbolTable.{SymbolTable}
+use Rattle.symbols.specs.Edges.{has}
+use Rattle.segment.specs.Segment.{size}
+use Rattle.form.specs.Form.{pending, maxTape}
+use Rattle.form.specs.Statements.{statements}
+use Rattle.form.proofs.Sound.{Sound}
+use Rattle.form.proofs.Numbers.{FaultBy, then-by, number-by}
+use Rattle.evaluator.specs.Expression.{Value}
+use Rattle.evaluator.specs.Accepted.{Computed}
+use Rattle.evaluator.proofs.Accepted.{passed}
+use Rattle.names.specs.Names.{namesOf}
+use Rattle.names.proofs.Kept.{names-sound}
+use Rattle.names.proofs.Numbers.{names-number}
+use Rattle.passes.specs.Walk.{Origin, origin}
+use Rattle.passes.specs.Passes.{Values, numbered, limit, leastFrom, repeats, settledBy, settled}
+use Rattle.tries.specs.Tries.{start, tries}
+use Rattle.tries.proofs.Numbers.{tries-number}
+use Rattle.builder.specs.Reads.{reaches, numberIn, readsOn}
+use Rattle.builder.specs.Build.{Build, builder, finished, triedWith, builtBy, built}
+use Rattle.builder.specs.Refusals.{refusals}
+use Rattle.builder.specs.Call.{Memory, isAllowed, left, buildOf}
+use Rattle.builder.proofs.Names.{allowed}
+
+-- a number that stands in the list
+abbrev Among : ℕ → Type 0
+Among n = has n refusals ≡ true
+
+mapped-by : {A B : Type 0} (f : A → B) (a : AnswerAt A) → FaultBy Among a → FaultBy Among (mapped f a)
+mapped-by f (Fine a) h = tt
+mapped-by f (Fault n at) h = h
+
+module _ (tape : List ℕ) (o : Origin) (few : length tape ≤ maxTape) (low : o .initial ≤ size) where
+  -- ---- passes and tries, of a tape whose names make the table t
+
+  module _ {t : SymbolTable} (fine : namesOf tape ≡ Fine t) where
+    abbrev reads : (ℕ → Option ℤ) → ℤ → ℕ → Value
+    reads = readsOn tape t
+
+    computes : (numbers : ℕ → Option ℤ) (n d : ℕ) (ds : List ℕ) (at : ℕ) (place : ℤ) → 0 < d → Sound false tape (pending n (d ∷ ds)) at
+        → Computed (length tape) (reads numbers place at)
+    unfolding readsOn
+    computes numbers n d ds at place deep sound =
+        passed false tape (λ i. numberIn numbers (reaches tape t i)) place n 64 d ds at deep (omega arith) sound .value
+
+    settled-number : FaultBy Among (settled reads (statements tape) o)
+    unfolding settled has
+    settled-number = go (leastFrom (repeats reads (statements tape) o) limit 1)
+      where
+        go : (n : Option ℕ) → FaultBy Among (settledBy reads (statements tape) o n)
+        go none = refl
+        go (some n) = tt
+
+    tried-number : (n : ℕ) (L : Values) → FaultBy Among (triedWith reads (statements tape) o (n, L))
+    unfolding has
+    tried-number n L =
+        mapped-by (finished reads (statements tape) o n L) (tries reads builder (numbered L) (start o) (statements tape))
+        (tries-number Among refl refl refl refl refl builder (λ z. refl) (λ z. absurd (z refl)) reads (numbered L) tape
+        (computes (numbered L)) (names-sound tape fine .0) o low)
+
+    built-by-number : FaultBy Among (builtBy reads (statements tape) o)
+    unfolding builtBy
+    built-by-number =
+        then-by Among (triedWith reads (statements tape) o) (settled reads (statements tape) o) settled-number
+        (λ x e. tried-number (x .0) (x .1))
+
+  -- ---- form and names before them
+
+  built-number : FaultBy Among (built tape o)
+  unfolding built has
+  built-number =
+      then-by Among (λ t. builtBy (readsOn tape t) (statements tape) o) (namesOf tape)
+      (names-number Among refl refl refl refl refl refl refl tape few) (λ t fine. built-by-number fine)
+
+-- ---- the build
+
+module _ (tape : List ℕ) (initial : ℕ) (few : length tape ≤ maxTape) (low : initial ≤ size) {n at : ℕ} where
+  pub refused-with : built tape (origin initial) ≡ Fault n at → has n refusals ≡ true
+  refused-with e = number-by Among (built-number tape (origin initial) few low) e
+
+  -- none is the number for arguments
+  pub not-argument : built tape (origin initial) ≡ Fault n at → n ≡ argument → ⊥
+  unfolding has
+  not-argument e is = let no : false ≡ true = subst Among is (refused-with e) in never (cc)
+
+-- ---- the call: it answers a 1 only where an argument is outside its range
+
+module _ (tape : List ℕ) (initial : ℕ) (m : Memory) where
+  abbrev ranges : Bool
+  ranges = isAllowed (length tape) initial (length (m .image)) (length (m .list)) (length (m .work))
+
+  pub argument-only : {at : ℕ} → buildOf tape initial m .0 ≡ Fault argument at → ranges ≡ false
+  unfolding buildOf
+  argument-only {at} e = go ranges refl e
+    where
+      not-left : length tape ≤ maxTape → initial ≤ size → (b : AnswerAt Build) → built tape (origin initial) ≡ b
+          → left m b .0 ≡ Fault argument at → ⊥
+      not-left few low (Fine b) is e = never (cc)
+      not-left few low (Fault n i) is e = not-argument tape initial few low is cc
+
+      go : (t : Bool) → ranges ≡ t → pick t (left m (built tape (origin initial))) (Fault argument 0, m) .0 ≡ Fault argument at
+          → ranges ≡ false
+      go true in-range e =
+          let a = allowed _ _ _ _ _ in-range in
+          absurd (not-left (a .tape) (a .initial) (built tape (origin initial)) refl e)
+      go false in-range e = in-range
