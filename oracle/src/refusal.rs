@@ -13,6 +13,11 @@ pub const UNPAIRED: u8 = 8;
 pub const TOO_DEEP: u8 = 9;
 pub const ARITHMETIC: u8 = 10;
 pub const UNRESOLVED: u8 = 11;
+pub const TOO_SMALL: u8 = 12;
+pub const MOVED: u8 = 13;
+pub const TOO_FAR: u8 = 14;
+pub const OUTSIDE: u8 = 15;
+pub const NOT_SETTLED: u8 = 16;
 
 /// The answer line of a refusal.
 pub const REFUSED: &str = "refused";

@@ -24,6 +24,7 @@ use super::expressions::records::*;
 use super::{opcodes, short_at, Answerer, Kind};
 use crate::refusal::{ARGUMENT, BAD_RECORD, CUT_SHORT, NO_ROW, TOO_DEEP, UNPAIRED};
 use std::collections::BTreeSet;
+use std::fmt;
 
 const BEGIN: u8 = 0;
 const APPEND: u8 = 1;
@@ -55,16 +56,30 @@ enum Question<'a> {
 use Question::*;
 
 /// A refusal: its number, and the offset of the record at fault.
-struct Fault {
+pub(super) struct Fault {
     number: u8,
     at: usize,
 }
 
+impl Fault {
+    // This number at this offset.
+    pub(super) fn new(number: u8, at: usize) -> Self {
+        Self { number, at }
+    }
+}
+
+impl fmt::Display for Fault {
+    // The line of a refusal.
+    fn fmt(&self, line: &mut fmt::Formatter) -> fmt::Result {
+        write!(line, "refused {} at {}", self.number, self.at)
+    }
+}
+
 /// The offset behind what was read, or what is wrong with it.
-type Behind = Result<usize, Fault>;
+pub(super) type Behind = Result<usize, Fault>;
 
 /// The numbers of mnemonic, mode and suffix of every row.
-type Rows = BTreeSet<[u8; 3]>;
+pub(super) type Rows = BTreeSet<[u8; 3]>;
 
 // What the driver knows of this kind.
 pub fn kind() -> Kind {
@@ -118,7 +133,7 @@ fn answerer() -> Answerer {
 }
 
 // The rows: what the Rust has bytes for.
-fn rows() -> Rows {
+pub(super) fn rows() -> Rows {
     let is_row = |row: &[u8; 3]| opcodes::encode(*row, 0).is_some();
     let rows: Rows = opcodes::rows().into_iter().filter(is_row).collect();
     assert_eq!(rows.len(), ROWS, "rows");
@@ -141,7 +156,7 @@ fn answer(rows: &Rows, tape: &mut Vec<u8>, question: Question) -> String {
     };
     match checked {
         Ok(_) => "done".into(),
-        Err(fault) => format!("refused {} at {}", fault.number, fault.at),
+        Err(fault) => fault.to_string(),
     }
 }
 
@@ -156,7 +171,7 @@ fn damaged(tape: &[u8], length: u32, at: u32, byte: u8) -> Vec<u8> {
 }
 
 // "Up to 65,536 bytes of records", and all of them read.
-fn form(rows: &Rows, bytes: &[u8]) -> Behind {
+pub(super) fn form(rows: &Rows, bytes: &[u8]) -> Behind {
     let reader = Reader { rows, bytes };
     reader.limited()?;
     reader.ended(reader.statements()?)

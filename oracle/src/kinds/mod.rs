@@ -1,7 +1,8 @@
 //! The kinds of question: one for each module of mos that is asked, and for its evaluator a second,
-//! expressions; and decode, branch and form, which the port adds.
+//! expressions; and decode, branch, form and build, which the port adds.
 
 mod branch;
+mod build;
 mod decode;
 mod evaluator;
 mod expressions;
@@ -44,6 +45,7 @@ pub fn all() -> Vec<Kind> {
         symbols::kind(),
         expressions::kind(),
         form::kind(),
+        build::kind(),
         text_encoding::kind(),
     ]
 }
