@@ -1,8 +1,9 @@
--- What a finished build has: the names of its tape, the least pass that repeats, and numbers that a further pass gives back. And a tape
--- whose passes never repeat is refused with 16 at 0. Assumes nothing.
+-- What a finished build has: the names of its tape, the least pass that repeats, numbers that a further pass gives back, and an image
+-- that is zero outside its range. And a tape whose passes never repeat is refused with 16 at 0. Assumes nothing.
 use mathlib.Core.List.{List, map}
 use mathlib.Core.Path.{_≡_, refl, ap, _∙_, subst}
-use Prim.Native.Nat.{ℕ, _-_, _≤_}
+use Prim.Native.Nat.{ℕ, _-_, _<_, _≤_}
+use lib.ListN.{getD}
 use Rattle.refusals.specs.AnswerAt.{AnswerAt, Fine, Fault, mapped, andThen}
 use Rattle.refusals.specs.Table.{notSettled}
 use Rattle.refusals.proofs.Never.{never}
@@ -15,6 +16,7 @@ use Rattle.passes.specs.Passes.{Values, numbered, limit, pass, passes, settled}
 use Rattle.passes.specs.Least.{Least}
 use Rattle.passes.proofs.Settles as Settles
 use Rattle.tries.specs.Tries.{Trying, start, tries}
+use Rattle.tries.proofs.Zero.{clean-blank, clean-tries}
 use Rattle.builder.specs.Reads.{readsOn}
 use Rattle.builder.specs.Build.{Build, builder, numberList, finished, triedWith, builtBy, built}
 use Rattle.builder.proofs.Builds.{fine-is, built-refused}
@@ -35,6 +37,8 @@ pub record Built (tape : List ℕ) (o : Origin) (b : Build) : Type 0 where
   pub walked : Trying
   pub tried : tries (readsOn tape table) builder (numbered values) (start o) (statements tape) ≡ Fine walked
   pub image : b .image ≡ walked .page .image
+  pub start : b .start ≡ walked .page .pen .start
+  pub end : b .end ≡ walked .page .pen .end
 
 module _ (tape : List ℕ) (o : Origin) where
   pub finished-build : {b : Build} → built tape o ≡ Fine b → Built tape o b
@@ -57,6 +61,8 @@ module _ (tape : List ℕ) (o : Origin) where
             walked = w;
             tried = tried;
             image = refl;
+            start = refl;
+            end = refl;
           })
       written t is n L settles (Fault m at) tried e = never (cc)
 
@@ -69,6 +75,17 @@ module _ (tape : List ℕ) (o : Origin) where
           → Built tape o b
       named (Fine t) is e = passed t is _ refl e
       named (Fault m at) is e = never (cc)
+
+  -- "an image zero outside the range"
+  pub zero-outside : {b : Build} → built tape o ≡ Fine b → (a : ℕ)
+      → (a < b .start → getD (b .image) a 0 ≡ 0) × (b .end ≤ a → getD (b .image) a 0 ≡ 0)
+  zero-outside {b} e a =
+      let f = finished-build e in
+      let h = clean-tries (readsOn tape (f .table)) builder (numbered (f .values)) (start o) (statements tape) (clean-blank o) (f .tried) in
+      let same = ap (λ (l : List ℕ). getD l a 0) (f .image) in (
+        λ l. same ∙ h .before a (subst (λ (n : ℕ). a < n) (f .start) l),
+        λ l. same ∙ h .behind a (subst (λ (n : ℕ). n ≤ a) (f .end) l),
+      )
 
   -- the passes of an accepted tape never repeat within the limit
   pub unsettled-build : {t : SymbolTable} → namesOf tape ≡ Fine t

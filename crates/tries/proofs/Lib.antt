@@ -1,4 +1,5 @@
--- Laws of a try, of what it writes and how long that is, of the walk over a tape; and that the call allows one answer.
+-- Laws of a try, of what it writes and how long that is, of the walk over a tape, of the image outside the range; and that the call
+-- allows one answer.
 pub mod Parts
 pub mod Attempts
 pub mod Drawing
@@ -7,4 +8,5 @@ pub mod Advancing
 pub mod Walking
 pub mod Numbers
 pub mod Writing
+pub mod Zero
 pub mod Unique
