@@ -7,6 +7,7 @@ use super::program::Path;
 use super::Question::{self, *};
 use super::{bytes_of, PART, SIZE};
 use crate::random::Random;
+use itertools::iproduct;
 
 // The mode without an operand, and the mnemonics LDA, NOP and BNE.
 const IMPLIED: u8 = 0;
@@ -149,14 +150,28 @@ impl Script {
         self.source.between(1, times) == 1
     }
 
-    // Cases by hand: at the edges of passes, forms, branches and places.
+    // Cases by hand: at the edges of passes, forms, branches, places, names and values.
     fn put_cases(&mut self) {
+        self.put_ends();
+        self.put_passes();
+        self.put_branches();
+        self.put_places();
+        self.put_names();
+        self.put_values();
+    }
+
+    // Tapes without statements.
+    fn put_ends(&mut self) {
         self.tell(0, &[]);
         self.tell(SIZE + 1, &[]);
         self.tell(SIZE + 1, &[END]);
         for initial in [0, 1, 0x2000, SIZE] {
             self.tell(initial, &[END]);
         }
+    }
+
+    // Chains of constants, operands near 256, and places that run on.
+    fn put_passes(&mut self) {
         for count in 1..=20 {
             self.tell(0, &chain(count));
         }
@@ -164,14 +179,115 @@ impl Script {
             self.tell(initial, &forward(0));
             self.tell(initial - 7, &forward(7));
         }
+        for bytes in [-1, 0, 1, 256, 4_096, 4_400, 5_000] {
+            self.tell(0, &running(bytes));
+            self.tell(60_000, &running(bytes));
+        }
+    }
+
+    // Branches as far as they go, and further.
+    fn put_branches(&mut self) {
         for bytes in [0, 1, 125, 126, 127, 128, 129] {
             self.tell(0, &backward(bytes));
             self.tell(SIZE - bytes - 2, &backward(bytes));
             self.tell(SIZE - bytes - 1, &backward(bytes));
         }
-        for bytes in [-1, 0, 1, 256, 4_096, 4_400, 5_000] {
-            self.tell(0, &running(bytes));
-            self.tell(60_000, &running(bytes));
+        for distance in [-127, -126, -1, 0, 1, 129, 130] {
+            let target = binary(0, &current_place(), &number(distance));
+            self.tell(300, &[absolute(BNE), target, vec![END]].concat());
+        }
+    }
+
+    // Places and room near the end, by the initial place and by set place.
+    fn put_places(&mut self) {
+        let moved = [declaration(CONSTANT, 2), current_place()].concat();
+        for place in [-1, 0, 65_533, 65_534, 65_535, 65_536, 65_537] {
+            let set = [vec![SET_PLACE], number(place), declaration(LABEL, 1)].concat();
+            for line in [
+                &moved[..],
+                &[BYTE, 2],
+                &[WORD, 2],
+                &[SCREEN_BYTE, 0, SCREEN_BYTE, 1],
+            ] {
+                self.tell(0, &[&set, line, &[END]].concat());
+                self.tell(place.clamp(0, 65_537) as usize, &[line, &[END]].concat());
+            }
+        }
+        let both = [vec![BYTE, 2, SET_PLACE], number(9), vec![BYTE, 2, END]].concat();
+        self.tell(3, &both);
+        self.tell(30, &both);
+    }
+
+    // Names from inside two scopes, 8 and 9, with the labels 1, 2 and 3 in different ones of them.
+    fn put_names(&mut self) {
+        let paths: [&[u16]; 12] = [
+            &[1],
+            &[2],
+            &[3],
+            &[9],
+            &[9, 3],
+            &[8, 9, 3],
+            &[0, 1],
+            &[0, 0, 1],
+            &[0, 0, 0, 1],
+            &[0, 3],
+            &[3, 0, 3],
+            &[9, 1],
+        ];
+        for (path, inner, outer, root) in iproduct!(paths, 0..4, 0..4, 0..4) {
+            let label = |id| match id {
+                0 => vec![],
+                _ => declaration(LABEL, id),
+            };
+            let word = [vec![WORD], name(WHOLE, path)].concat();
+            let inside = [
+                declaration(OPEN_SCOPE, 9),
+                word,
+                label(inner),
+                vec![CLOSE_SCOPE],
+            ]
+            .concat();
+            let around = [
+                declaration(OPEN_SCOPE, 8),
+                inside,
+                label(outer),
+                vec![CLOSE_SCOPE],
+            ]
+            .concat();
+            self.tell(
+                0x1234,
+                &[around, vec![SCREEN_BYTE, 0xff], label(root), vec![END]].concat(),
+            );
+        }
+    }
+
+    // Low and high bytes of a constant; and two sides of which one is refused or unresolved.
+    fn put_values(&mut self) {
+        for value in [
+            i64::MIN,
+            -65_537,
+            -257,
+            -256,
+            -255,
+            -1,
+            0,
+            255,
+            256,
+            65_535,
+            65_536,
+        ] {
+            let constant = [declaration(CONSTANT, 1), number(value)].concat();
+            let modified = |modifier| [vec![WORD], name(modifier, &[1])].concat();
+            let words = [WHOLE, LOW, HIGH].map(modified).concat();
+            self.tell(0, &[constant, words, vec![END]].concat());
+        }
+        let refused = flagged(NEG, &number(i64::MIN));
+        let sides = [refused, short_name(9), number(64), number(0)];
+        for (left, right, operator) in iproduct!(&sides, &sides, 0..=LAST_OPERATOR) {
+            self.tell(
+                0,
+                &[vec![WORD], binary(operator, left, right), vec![END]].concat(),
+            );
         }
     }
 
@@ -179,11 +295,11 @@ impl Script {
     // inside each other.
     fn put_full(&mut self) {
         for count in [1_022, 1_023, 1_024, 1_025] {
-            let labels = (1..=count).flat_map(|id| declaration(LABEL, id));
-            self.more(&labels.clone().collect::<Vec<_>>());
+            let labels: Vec<u8> = (1..=count).flat_map(|id| declaration(LABEL, id)).collect();
+            self.more(&labels);
             self.tell(0, &[END]);
-            self.more(&labels.collect::<Vec<_>>());
-            self.tell(0, &[END]);
+            self.more(&labels);
+            self.tell(0, &[declaration(LABEL, 1), vec![END]].concat());
             self.put_inside(
                 count.into(),
                 0,
@@ -501,9 +617,10 @@ impl Script {
         let alike = self.scope.iter().zip(whole).take_while(|(a, b)| a == b);
         let shared = alike.count().min(whole.len() - 1);
         let supers = vec![SUPER; self.scope.len() - shared];
-        match self.source.between(0, 3) {
-            0 => whole.to_vec(),
-            1 => [&supers, &whole[shared..]].concat(),
+        match self.source.between(0, 7) {
+            0 | 1 => whole.to_vec(),
+            2 => [&supers, &whole[shared..]].concat(),
+            3 => [&[SUPER], &whole[shared..]].concat(),
             _ => whole[shared..].to_vec(),
         }
     }
