@@ -7,30 +7,34 @@ use Prim.Native.Nat.{ℕ, zero, suc, _-_, _≤_, _<_}
 use native.Mathlib.Omega.{arith}
 use lib.IntN.{ℤ, pos}
 use lib.ListN.{length, getD, drop, replicate}
-use borrow.Author.Tests.{le-leb, lt-ltb, eq-eqb}
+use borrow.Author.Tests.{lt-ltb}
 use Rattle.refusals.specs.AnswerAt.{AnswerAt, Fine, Fault, mapped, andThen}
 use Rattle.refusals.proofs.Never.{never}
-use Rattle.symbols.specs.Symbols.{numberOr0}
 use Rattle.segment.specs.Segment.{size}
+use Rattle.symbols.specs.Symbols.{numberOr0}
 use Rattle.form.specs.Form.{maxTape}
 use Rattle.form.specs.Statements.{What, Instruction, Open, Close, Label, Constant, SetPlace, Byte, Word, Screen, Statement, statements}
 use Rattle.evaluator.specs.Expression.{Value}
-use Rattle.passes.specs.declared.Numbers.{Numbers}
+use Rattle.walk.specs.declared.Numbers.{Numbers}
+use Rattle.walk.specs.Walk.{Origin, origin, namesIn}
+use Rattle.walk.specs.Values.{Values, numbered, declarations}
+use Rattle.walk.specs.Numbers.{filled, numbersBy, readsNoted}
+use Rattle.walk.proofs.Agrees.{Alike}
+use Rattle.walk.proofs.Columns.{by-node}
 use Rattle.passes.specs.declared.Passes as P
 use Rattle.passes.specs.declared.Passes.the-variants as after
-use Rattle.passes.specs.Walk.{Origin, origin, here, namesIn}
-use Rattle.passes.specs.Passes.{Values, numbered, declarations, settled}
+use Rattle.passes.specs.Passes.{settled}
 use Rattle.passes.specs.Settle as S
-use Rattle.passes.specs.Settle.{filled, numbersBy, readsNoted, settleOf, saysPasses}
-use Rattle.passes.proofs.Agrees.{Alike, settled-alike}
-use Rattle.passes.proofs.Columns.{by-node}
+use Rattle.passes.specs.Settle.{settleOf, saysPasses}
+use Rattle.passes.proofs.Agrees.{settled-alike}
 use Rattle.passes.proofs.Counting.{allowed-by}
 use Rattle.passes.proofs.Settles.{least, passes-length}
-use Rattle.tries.specs.declared.Compares.{Compares}
 use Rattle.tries.specs.declared.Written as W
 use Rattle.tries.specs.declared.Written.the-variants as written
-use Rattle.tries.specs.Tries.{Trying, start, tryAt, tried, tries}
-use Rattle.tries.specs.Write.{isAllowed, triedAll, writeOf, rangeOf, saysWritten, imageOr}
+use Rattle.tries.specs.Tries.{Trying, start, tries}
+use Rattle.tries.specs.Write.{rangeOf, saysWritten, imageOr}
+use Rattle.tries.proofs.Agrees.{tries-alike}
+use Rattle.reads.proofs.Names.{fault-is}
 use Rattle.builder.specs.Build.{Build, builder, listed, numberList, finished, triedWith, builtBy}
 use Rattle.builder.specs.Call.{Report, report, Memory, memory, left}
 use Rattle.builder.specs.Steps.{imageFrom, listFrom, finishedIn, triedIn}
@@ -39,23 +43,6 @@ use Rattle.builder.specs.Steps.{imageFrom, listFrom, finishedIn, triedIn
 
 abbrev Reads : Type 0
 Reads = (ℕ → Option ℤ) → ℤ → ℕ → Value
-
-module _ (r s : Reads) (c : Compares) (numbers : ℕ → Option ℤ) where
-  tried-alike : (t : Trying) (x : Statement) → r numbers (here (t .walk)) (x .expression) ≡ s numbers (here (t .walk)) (x .expression)
-      → tried r c numbers t x ≡ tried s c numbers t x
-  unfolding tried tryAt
-  tried-alike t x e = rw e
-
-  tries-alike : (t : Trying) (xs : List Statement) → Alike r s xs → tries r c numbers t xs ≡ tries s c numbers t xs
-  tries-alike t [] h = refl
-  tries-alike t (x ∷ xs) h =
-      ap (λ (a : AnswerAt Trying). andThen a (λ u. tries r c numbers u xs)) (tried-alike t x (h .0 numbers (here (t .walk))))
-      ∙ go (λ u. tries-alike u xs (h .1)) (tried s c numbers t x)
-    where
-      go : ((u : Trying) → tries r c numbers u xs ≡ tries s c numbers u xs) → (a : AnswerAt Trying)
-          → andThen a (λ u. tries r c numbers u xs) ≡ andThen a (λ u. tries s c numbers u xs)
-      go rest (Fine u) = rest u
-      go rest (Fault n at) = refl
 
 pub built-alike : (r s : Reads) (xs : List Statement) (o : Origin) → Alike r s xs → builtBy r xs o ≡ builtBy s xs o
 unfolding builtBy
@@ -121,25 +108,13 @@ module _ (r : Reads) (xs : List Statement) (o : Origin) (few : declarations xs <
 
 -- ---- what the tries answer
 
-module _ (tape nodes : List ℕ) (numbers : Numbers) (initial : ℕ) (c : Compares) where
-  pub write-allowed : length tape ≤ maxTape → initial ≤ size → {n : ℕ} → n ≡ size
-      → writeOf tape nodes numbers initial c n ≡ triedAll tape nodes numbers initial c
-  unfolding writeOf isAllowed
-  write-allowed a b e = rw (le-leb (length tape) 65536 a, le-leb initial 65536 b, eq-eqb _ 65536 e)
-
--- two values, or two faults, that are equal
+-- two values that are equal
 abbrev fineOr : {A : Type 0} → A → AnswerAt A → A
 fineOr d (Fine a) = a
 fineOr d (Fault n at) = d
 
 pub fine-is : {A : Type 0} (d : A) {a b : A} → Fine a ≡ Fine b → a ≡ b
 fine-is d e = ap (fineOr d) e
-
-pub fault-is : {A B : Type 0} {m at n i : ℕ} → _≡_ {A = AnswerAt A} (Fault m at) (Fault n i) → _≡_ {A = AnswerAt B} (Fault m at) (Fault n i)
-fault-is {m = m} {at} {n} {i} e =
-    let number : m ≡ n = cc in
-    let place : at ≡ i = cc in
-    λ j. Fault (number j) (place j)
 
 -- what is left of the image and of the list
 abbrev pub Left : AnswerAt Report → (image image′ : List ℕ) (list list′ : List ℤ) → AnswerAt Build → Type 0

@@ -11,13 +11,14 @@ use Rattle.symbols.specs.declared.SymbolTable.{SymbolTable}
 use Rattle.symbols.specs.Symbols.{numberOr0}
 use Rattle.form.specs.Statements.{statements}
 use Rattle.names.specs.Names.{namesOf}
-use Rattle.passes.specs.Walk.{Origin, begin}
-use Rattle.passes.specs.Passes.{Values, numbered, limit, pass, passes, settled}
+use Rattle.walk.specs.Walk.{Origin, begin}
+use Rattle.walk.specs.Values.{Values, numbered}
+use Rattle.passes.specs.Passes.{limit, pass, passes, settled}
 use Rattle.passes.specs.Least.{Least}
 use Rattle.passes.proofs.Settles as Settles
 use Rattle.tries.specs.Tries.{Trying, start, tries}
 use Rattle.tries.proofs.Zero.{clean-blank, clean-tries}
-use Rattle.builder.specs.Reads.{readsOn}
+use Rattle.reads.specs.Reads.{readsOn}
 use Rattle.builder.specs.Build.{Build, builder, numberList, finished, triedWith, builtBy, built}
 use Rattle.builder.proofs.Builds.{fine-is, built-refused}
 

@@ -1,41 +1,29 @@
 -- The number list, record by record; and that numbers by node give the same list. Assumes nothing.
-use mathlib.Core.Bool.{Bool, true, false, _||_, true≢false}
+use mathlib.Core.Bool.{Bool, true, false, true≢false}
 use mathlib.Core.List.{List, [], _∷_, _++_, append-assoc, append-nil}
 use mathlib.Core.Path.{_≡_, refl, sym, ap, _∙_, subst}
 use Prim.Native.Nat.{ℕ, _+_, _-_, _≤_, _<_}
 use native.Mathlib.Omega.{arith}
-use lib.Dec.{eqb}
 use lib.IntN.{ℤ, pos}
 use lib.ListN.{length, getD, set, drop, replicate, length-append, length-replicate}
 use lib.Seq.{drop-drop}
 use Rattle.refusals.specs.Answer.{pick}
 use Rattle.refusals.proofs.Pick.{at-false}
 use Rattle.refusals.proofs.Never.{never}
-use Rattle.tape.specs.Kinds.{openScope, label, constant}
 use Rattle.tape.specs.Record.{bytesAt}
 use Rattle.tape.proofs.Records.{record-end}
-use Rattle.form.specs.Form.{declares}
+use Rattle.form.specs.Form.{declares, isNumbered}
 use Rattle.form.specs.Statements.{whatOf, Statement, isLast, isInner, statementOf, statementsAt, statements}
-use Rattle.form.proofs.Said.{said, by-kind}
+use Rattle.form.proofs.Said.{said, by-kind, numbered-declares}
 use Rattle.form.proofs.Statements.{statements-inner, statements-one}
-use Rattle.passes.specs.Walk.{namesIn}
-use Rattle.passes.specs.Passes.{declarations}
-use Rattle.passes.specs.Settle.{filled}
-use Rattle.passes.proofs.Columns.{fill-next}
-use Rattle.passes.proofs.Counting.{inner-none}
+use Rattle.walk.specs.Walk.{namesIn}
+use Rattle.walk.specs.Values.{declarations}
+use Rattle.walk.specs.Numbers.{filled}
+use Rattle.walk.proofs.Columns.{fill-next}
+use Rattle.walk.proofs.Records.{inner-none}
 use Rattle.builder.specs.Build.{listed, numberList}
-use Rattle.builder.specs.Steps.{isNumbered}
 
 -- ---- what a record adds
-
--- what has a number is declared
-numbered-declares : (n : ℕ) → declares n ≡ false → isNumbered n ≡ false
-unfolding isNumbered declares
-numbered-declares n e = go (eqb n openScope) (eqb n label) (eqb n constant) e
-  where
-    go : (a b c : Bool) → (a || b || c) ≡ false → (b || c) ≡ false
-    go true b c e = never (cc)
-    go false b c e = e
 
 module _ (r : List ℕ) (k : ℕ) (is : k ≡ getD r 0 0) where
   -- a label or a constant adds the number of its name, and nothing else does

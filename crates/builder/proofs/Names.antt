@@ -1,33 +1,27 @@
 -- What the names of a tape answer, and that the build behind them is the build by their notes. Assumes nothing.
 use mathlib.Core.Bool.{true, _&&_, and-eq-true-iff}
-use mathlib.Core.List.{List, [], _∷_}
-use mathlib.Core.Path.{_≡_, refl, sym, ap, _∙_}
-use Prim.Native.Nat.{ℕ, _+_, _≤_, _<_}
-use native.Mathlib.Omega.{arith}
+use mathlib.Core.List.{List}
+use mathlib.Core.Path.{_≡_, sym, ap, _∙_}
+use Prim.Native.Nat.{ℕ, _≤_}
 use lib.Dec.{eqb, leb}
 use lib.ListN.{length}
-use borrow.Author.Tests.{eq-eqb, eqb-true, leb-true}
+use borrow.Author.Tests.{eqb-true, leb-true}
 use Rattle.refusals.specs.AnswerAt.{AnswerAt, Fine, Fault, andThen}
-use Rattle.refusals.specs.Says.{saysAt}
-use Rattle.refusals.specs.declared.OutcomeAt as O
-use Rattle.refusals.specs.declared.OutcomeAt.the-variants as outcome
-use Rattle.refusals.proofs.Never.{never}
+use Rattle.segment.specs.Segment.{size}
 use Rattle.symbols.specs.declared.SymbolTable.{SymbolTable}
 use Rattle.symbols.specs.Edges.{maxNodes}
-use Rattle.segment.specs.Segment.{size}
 use Rattle.form.specs.Form.{maxTape}
-use Rattle.form.specs.Statements.{What, Instruction, Open, Close, Label, Constant, SetPlace, Byte, Word, Screen, Statement, statements}
-use Rattle.names.specs.Scopes.{Scopes, outermost, scopesAfter, scopesBehind}
-use Rattle.names.specs.Names.{left, namesOf, declareOf, notesAfter}
-use Rattle.names.proofs.Kept.{declared-count, notes-are}
-use Rattle.passes.specs.Walk.{Origin, namesIn}
-use Rattle.passes.specs.Passes.{declarations}
-use Rattle.passes.specs.Settle.{readsNoted}
-use Rattle.builder.specs.Reads.{readsOn}
+use Rattle.form.specs.Statements.{statements}
+use Rattle.names.specs.Names.{namesOf, declareOf, notesAfter}
+use Rattle.names.proofs.Kept.{notes-are}
+use Rattle.walk.specs.Walk.{Origin}
+use Rattle.walk.specs.Numbers.{readsNoted}
+use Rattle.reads.specs.Reads.{readsOn}
+use Rattle.reads.proofs.Names.{declare-is}
+use Rattle.reads.proofs.Reading.{all-alike}
 use Rattle.builder.specs.Build.{builtBy, built}
 use Rattle.builder.specs.Call.{isAllowed, workPlaces}
-use Rattle.builder.proofs.Reading.{all-alike}
-use Rattle.builder.proofs.Builds.{fault-is, built-alike}
+use Rattle.builder.proofs.Builds.{built-alike}
 
 -- ---- arguments
 
@@ -52,44 +46,6 @@ allowed t i m l w e =
       list = eqb-true l maxNodes (b .1);
       work = eqb-true w workPlaces (a .1);
     }
-
--- ---- what the names answer
-
-module _ {t : SymbolTable} {r : O.OutcomeAt} where
-  pub names-refused : {m at : ℕ} → r ≡ outcome.Refused m at → (a : AnswerAt SymbolTable) → (t, saysAt r) ≡ left a → a ≡ Fault m at
-  names-refused is (Fine u) e = never (let f = sym (ap saysAt is) ∙ ap (λ x. x .1) e in cc)
-  names-refused is (Fault n i) e = sym (fault-is (sym (ap saysAt is) ∙ ap (λ x. x .1) e))
-
-  pub names-done : r ≡ outcome.Done → (a : AnswerAt SymbolTable) → (t, saysAt r) ≡ left a → (u : SymbolTable) × (a ≡ Fine u)
-  names-done is (Fine u) e = (u, refl)
-  names-done is (Fault n i) e = never (let f = sym (ap saysAt is) ∙ ap (λ x. x .1) e in cc)
-
-pub declare-is : (tape : List ℕ) {places : ℕ} → places ≡ maxTape → declareOf tape places ≡ namesOf tape
-unfolding declareOf
-declare-is tape e = rw (eq-eqb _ 65536 e)
-
--- ---- how many names there are
-
-names-said : (s : Scopes) (x : What) → scopesAfter s x .names ≡ s .names + namesIn x
-names-said s (Open id) = omega arith
-names-said s Close = omega arith
-names-said s (Label id) = omega arith
-names-said s (Constant id) = omega arith
-names-said s (Instruction mnemonic mode suffix) = omega arith
-names-said s SetPlace = omega arith
-names-said s Byte = omega arith
-names-said s Word = omega arith
-names-said s (Screen petscii) = omega arith
-
-names-behind : (s : Scopes) (xs : List Statement) → scopesBehind s xs .names ≡ s .names + declarations xs
-names-behind s [] = omega arith
-names-behind s (x ∷ xs) = omega (arith, names-behind (scopesAfter s (x .says)) xs, names-said s (x .says))
-
-pub few-names : (tape : List ℕ) {t : SymbolTable} → namesOf tape ≡ Fine t → declarations (statements tape) < 1024
-few-names tape fine =
-    let all = names-behind outermost (statements tape) in
-    let count = declared-count tape fine in
-    omega (arith, all, count .0, count .1)
 
 -- ---- the build
 

@@ -1,38 +1,38 @@
 -- A build whose arguments are in their ranges is refused with one of the numbers listed for it; so a 1 is for arguments alone.
 -- Assumes nothing.
 use mathlib.Core.Bool.{Bool, true, false}
-use mathlib.Core.List.{List, _∷_}
+use mathlib.Core.List.{List}
 use mathlib.Core.Option.{Option, none, some}
 use mathlib.Core.Path.{_≡_, refl, subst}
-use Prim.Native.Nat.{ℕ, _≤_, _<_}
-use native.Mathlib.Omega.{arith}
+use Prim.Native.Nat.{ℕ, _≤_}
 use lib.IntN.{ℤ}
 use lib.ListN.{length}
 use Rattle.refusals.specs.Answer.{pick}
 use Rattle.refusals.specs.AnswerAt.{AnswerAt, Fine, Fault, mapped}
 use Rattle.refusals.specs.Table.{argument}
 use Rattle.refusals.proofs.Never.{never}
+use Rattle.segment.specs.Segment.{size}
 use Rattle.symbols.specs.declared.SymbolTable.{SymbolTable}
 use Rattle.symbols.specs.Edges.{has}
-use Rattle.segment.specs.Segment.{size}
-use Rattle.form.specs.Form.{pending, maxTape}
+use Rattle.form.specs.Form.{maxTape}
 use Rattle.form.specs.Statements.{statements}
-use Rattle.form.proofs.Sound.{Sound}
 use Rattle.form.proofs.Numbers.{FaultBy, then-by, number-by}
 use Rattle.evaluator.specs.Expression.{Value}
-use Rattle.evaluator.specs.Accepted.{Computed}
-use Rattle.evaluator.proofs.Accepted.{passed}
 use Rattle.names.specs.Names.{namesOf}
 use Rattle.names.proofs.Kept.{names-sound}
 use Rattle.names.proofs.Numbers.{names-number}
-use Rattle.passes.specs.Walk.{Origin, origin}
-use Rattle.passes.specs.Passes.{Values, numbered, limit, leastFrom, repeats, settledBy, settled}
+use Rattle.walk.specs.Walk.{Origin, origin}
+use Rattle.walk.specs.Values.{Values, numbered}
+use Rattle.passes.specs.Passes.{limit, leastFrom, repeats, settledBy, settled}
 use Rattle.tries.specs.Tries.{start, tries}
+use Rattle.tries.specs.Try.{plain}
 use Rattle.tries.proofs.Numbers.{tries-number}
-use Rattle.builder.specs.Reads.{reaches, numberIn, readsOn}
+use Rattle.reads.specs.Reads.{readsOn}
+use Rattle.reads.proofs.Numbers.{computes}
 use Rattle.builder.specs.Build.{Build, builder, finished, triedWith, builtBy, built}
 use Rattle.builder.specs.Refusals.{refusals}
 use Rattle.builder.specs.Call.{Memory, isAllowed, left, buildOf}
+use Rattle.builder.proofs.Agrees.{settled-either}
 use Rattle.builder.proofs.Names.{allowed}
 
 -- a number that stands in the list
@@ -50,12 +50,6 @@ module _ (tape : List ℕ) (o : Origin) (few : length tape ≤ maxTape) (low : o
     abbrev reads : (ℕ → Option ℤ) → ℤ → ℕ → Value
     reads = readsOn tape t
 
-    computes : (numbers : ℕ → Option ℤ) (n d : ℕ) (ds : List ℕ) (at : ℕ) (place : ℤ) → 0 < d → Sound false tape (pending n (d ∷ ds)) at
-        → Computed (length tape) (reads numbers place at)
-    unfolding readsOn
-    computes numbers n d ds at place deep sound =
-        passed false tape (λ i. numberIn numbers (reaches tape t i)) place n 64 d ds at deep (omega arith) sound .value
-
     settled-number : FaultBy Among (settled reads (statements tape) o)
     unfolding settled has
     settled-number = go (leastFrom (repeats reads (statements tape) o) limit 1)
@@ -64,18 +58,20 @@ module _ (tape : List ℕ) (o : Origin) (few : length tape ≤ maxTape) (low : o
         go none = refl
         go (some n) = tt
 
-    tried-number : (n : ℕ) (L : Values) → FaultBy Among (triedWith reads (statements tape) o (n, L))
+    tried-number : (n : ℕ) (L : Values) → settled reads (statements tape) o ≡ Fine (n, L)
+        → FaultBy Among (triedWith reads (statements tape) o (n, L))
     unfolding has
-    tried-number n L =
+    tried-number n L e =
         mapped-by (finished reads (statements tape) o n L) (tries reads builder (numbered L) (start o) (statements tape))
-        (tries-number Among refl refl refl refl refl builder (λ z. refl) (λ z. absurd (z refl)) reads (numbered L) tape
-        (computes (numbered L)) (names-sound tape fine .0) o low)
+        (subst (FaultBy Among) (settled-either reads (statements tape) o e plain builder)
+        (tries-number Among refl refl refl refl refl plain (λ z. absurd (z refl)) (λ z. absurd (z refl)) reads (numbered L) tape
+        (computes tape t (numbered L)) (names-sound tape fine .0) o low))
 
     built-by-number : FaultBy Among (builtBy reads (statements tape) o)
     unfolding builtBy
     built-by-number =
         then-by Among (triedWith reads (statements tape) o) (settled reads (statements tape) o) settled-number
-        (λ x e. tried-number (x .0) (x .1))
+        (λ x e. tried-number (x .0) (x .1) e)
 
   -- ---- form and names before them
 

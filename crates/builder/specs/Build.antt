@@ -10,11 +10,12 @@ use Rattle.symbols.specs.Symbols.{numberOr0}
 use Rattle.form.specs.Statements.{What, Instruction, Open, Close, Label, Constant, SetPlace, Byte, Word, Screen, Statement, statements}
 use Rattle.evaluator.specs.Expression.{Value}
 use Rattle.names.specs.Names.{namesOf}
-use Rattle.passes.specs.Walk.{Origin, namesIn}
-use Rattle.passes.specs.Passes.{Values, numbered, settled}
+use Rattle.walk.specs.Walk.{Origin, namesIn}
+use Rattle.walk.specs.Values.{Values, numbered}
+use Rattle.passes.specs.Passes.{settled}
 use Rattle.tries.specs.declared.Compares.{Compares}
 use Rattle.tries.specs.Tries.{Trying, start, tries}
-use Rattle.builder.specs.Reads.{readsOn}
+use Rattle.reads.specs.Reads.{readsOn}
 
 -- ---- the number list
 

@@ -8,11 +8,11 @@ use lib.ListN.{length, replicate}
 use Rattle.refusals.specs.Answer.{pick}
 use Rattle.refusals.specs.AnswerAt.{AnswerAt, Fine, Fault}
 use Rattle.refusals.specs.Table.{argument}
-use Rattle.symbols.specs.Edges.{maxNodes}
 use Rattle.segment.specs.Segment.{size}
+use Rattle.symbols.specs.Edges.{maxNodes}
 use Rattle.form.specs.Form.{maxTape}
-use Rattle.passes.specs.Walk.{origin}
-use Rattle.passes.specs.Settle.{filled}
+use Rattle.walk.specs.Walk.{origin}
+use Rattle.walk.specs.Numbers.{filled}
 use Rattle.builder.specs.declared.Built as B
 use Rattle.builder.specs.declared.Built.the-variants as cases
 use Rattle.builder.specs.Build.{Build, built}

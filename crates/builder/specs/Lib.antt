@@ -1,5 +1,4 @@
 -- The definitions that the contracts of this crate cite.
-pub mod Reads
 pub mod Build
 pub mod Refusals
 pub mod Call

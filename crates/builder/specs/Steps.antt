@@ -1,19 +1,16 @@
 -- What private functions promise each other on the way. No public promise cites these. Assumes nothing: these are definitions.
 use Prim.Native.Nat.{ℕ}
-use mathlib.Core.Bool.{Bool, _||_}
 use mathlib.Core.List.{List}
 use mathlib.Core.Option.{Option}
-use lib.Dec.{eqb}
 use lib.IntN.{ℤ, pos}
 use lib.ListN.{drop}
 use Rattle.refusals.specs.AnswerAt.{AnswerAt, Fine, Fault, mapped}
 use Rattle.symbols.specs.Edges.{maxNodes}
-use Rattle.tape.specs.Kinds.{label, constant}
 use Rattle.form.specs.Statements.{Statement}
 use Rattle.evaluator.specs.Expression.{Value}
-use Rattle.passes.specs.declared.Numbers.{Numbers}
-use Rattle.passes.specs.Walk.{Origin}
-use Rattle.passes.specs.Settle.{filled, numbersIn}
+use Rattle.walk.specs.declared.Numbers.{Numbers}
+use Rattle.walk.specs.Walk.{Origin}
+use Rattle.walk.specs.Numbers.{filled, numbersIn}
 use Rattle.tries.specs.Tries.{Trying, start, tries}
 use Rattle.builder.specs.Build.{Build, builder, numberList}
 
@@ -40,7 +37,3 @@ finishedIn xs n numbers t = record {
 unfoldable pub triedIn : ((ℕ → Option ℤ) → ℤ → ℕ → Value) → List Statement → Origin → ℕ → Numbers → AnswerAt Build
 triedIn reads xs o n numbers =
     mapped (finishedIn xs n numbers) (tries reads builder (numbersIn (numbers .known) (numbers .number)) (start o) xs)
-
--- a kind of which what is declared has a number
-unfoldable pub isNumbered : ℕ → Bool
-isNumbered k = eqb k label || eqb k constant

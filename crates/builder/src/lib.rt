@@ -1,16 +1,14 @@
 // The builder: from a tape to an image. Form and names, passes until the numbers repeat, and each statement tried; the lent image is
 // written where nothing is refused, and the work memory is zero again at the end.
 use form::LONGEST;
-use passes::Numbers;
 use passes::Passes;
 use refusals::ARGUMENT;
 use refusals::MOVED;
 use refusals::OutcomeAt;
 use symbols::NODES;
-use tape::CONSTANT;
-use tape::LABEL;
 use tries::Compares;
 use tries::Written;
+use walk::Numbers;
 ghost use mathlib.Core.Bool.{true};
 ghost use mathlib.Core.Path.{_≡_};
 ghost use Prim.Native.Nat.{_+_, _≤_, _<_};
@@ -18,16 +16,16 @@ ghost use lib.IntN.{pos};
 ghost use lib.ListN.{length, getD, set, drop, replicate};
 ghost use Rattle.refusals.specs.Answer.{pick};
 ghost use Rattle.refusals.specs.AnswerAt.{Fault, mapped};
-ghost use Rattle.symbols.specs.Edges.{maxNodes};
 ghost use Rattle.segment.specs.Segment.{size};
-ghost use Rattle.form.specs.Form.{maxTape, declares};
+ghost use Rattle.symbols.specs.Edges.{maxNodes};
+ghost use Rattle.form.specs.Form.{maxTape, isNumbered};
 ghost use Rattle.form.specs.Statements.{statements};
-ghost use Rattle.passes.specs.Walk.{origin};
-ghost use Rattle.passes.specs.Passes.{declarations};
-ghost use Rattle.passes.specs.Settle.{filled, readsNoted};
+ghost use Rattle.walk.specs.Walk.{origin};
+ghost use Rattle.walk.specs.Values.{declarations};
+ghost use Rattle.walk.specs.Numbers.{filled, readsNoted};
 ghost use Rattle.builder.specs.Build.{numberList, builtBy, built};
 ghost use Rattle.builder.specs.Call.{workPlaces, isAllowed, memory, buildOf, report, saysBuilt};
-ghost use Rattle.builder.specs.Steps.{imageFrom, listFrom, triedIn, isNumbered};
+ghost use Rattle.builder.specs.Steps.{imageFrom, listFrom, triedIn};
 
 // How many bytes an image has; also the greatest place.
 pub const SIZE: usize = 65536;
@@ -216,7 +214,7 @@ fn fill_list<'a>(tape: &'a [u8], number: &'a [i64; NODES], list: &mut [i64]) -> 
         }
         let kind = little::u8_at(rec, 0);
         count = listed(kind, number, names, list, count);
-        names = names_after(names, kind);
+        names += form::names_in(kind);
         at += rec.len();
     }
     count
@@ -234,31 +232,9 @@ fn listed<'a>(
     ensures { λ r. ⌜ (r ≡ pick (isNumbered kind) (count + 1) count)
         × (now (list .exit) ≡ pick (isNumbered kind) (set (now (list .entry)) count (getD (now (number .entry)) (names + 1) (pos 0))) (now (list .entry))) ⌝ }
 {
-    if is_numbered(kind) {
+    if form::is_numbered(kind) {
         list[count] = number[names + 1];
         return count + 1;
     }
     count
-}
-
-// Whether what a record of this kind declares has a number: labels and constants.
-fn is_numbered(kind: u8) -> bool
-    ensures { λ r. ⌜ r ≡ isNumbered kind ⌝ }
-{
-    if kind == LABEL {
-        return true;
-    }
-    kind == CONSTANT
-}
-
-// One name more, where a record of this kind declares one.
-fn names_after(names: usize, kind: u8) -> usize
-    requires { ⌜ names < maxNodes ⌝ }
-    ensures { λ r. ⌜ r ≡ pick (declares kind) (names + 1) names ⌝ }
-{
-    if form::declares(kind) {
-        names + 1
-    } else {
-        names
-    }
 }

@@ -1,15 +1,17 @@
 -- What a record says, by its kind: what holds of every kind and what it says holds of a record. Assumes nothing.
-use mathlib.Core.Bool.{Bool, true, false}
+use mathlib.Core.Bool.{Bool, true, false, _||_}
 use mathlib.Core.List.{List}
 use mathlib.Core.Path.{_≡_, refl, sym, ap, subst}
-use Prim.Native.Nat.{ℕ}
+use Prim.Native.Nat.{ℕ, _+_, _≤_}
+use native.Mathlib.Omega.{arith}
 use lib.Dec.{eqb}
 use lib.ListN.{getD}
 use borrow.Author.Tests.{ne-eqb, eqb-true, eqb-false}
 use Rattle.refusals.specs.Answer.{pick}
+use Rattle.refusals.proofs.Never.{never}
 use Rattle.little.specs.Little.{numberAt}
 use Rattle.tape.specs.Kinds.{instruction, openScope, closeScope, label, constant, setPlace, byte, word}
-use Rattle.form.specs.Form.{declares}
+use Rattle.form.specs.Form.{declares, isNumbered}
 use Rattle.form.specs.Statements.{What, Instruction, Open, Close, Label, Constant, SetPlace, Byte, Word, Screen, whatOf}
 
 module _ (r : List ℕ) where
@@ -54,3 +56,28 @@ module _ (r : List ℕ) where
   pub said : (k : ℕ) → k ≡ getD r 0 0 → whatOf r ≡ whatBy k
   unfolding whatOf
   said k is = ap whatBy (sym is)
+
+-- what has a number is declared
+pub numbered-declares : (n : ℕ) → declares n ≡ false → isNumbered n ≡ false
+unfolding isNumbered declares
+numbered-declares n e = go (eqb n openScope) (eqb n label) (eqb n constant) e
+  where
+    go : (a b c : Bool) → (a || b || c) ≡ false → (b || c) ≡ false
+    go true b c e = never (cc)
+    go false b c e = e
+
+-- how many names a record adds, by whether it declares one
+module _ (t : Bool) {m : ℕ} (is : m ≡ pick t 1 0) where
+  pub names-one : m ≤ 1
+  names-one = go t is
+    where
+      go : (t : Bool) → m ≡ pick t 1 0 → m ≤ 1
+      go true e = omega arith
+      go false e = omega arith
+
+  pub names-more : (n : ℕ) → n + m ≡ pick t (n + 1) n
+  names-more n = go t is
+    where
+      go : (t : Bool) → m ≡ pick t 1 0 → n + m ≡ pick t (n + 1) n
+      go true e = omega arith
+      go false e = omega arith

@@ -6,6 +6,8 @@ use Rattle.form.proofs.is_last.Reads as is-last
 use Rattle.form.proofs.is_inner.Reads as is-inner
 use Rattle.form.proofs.is_followed.Reads as is-followed
 use Rattle.form.proofs.declares.Reads as declares
+use Rattle.form.proofs.is_numbered.Reads as is-numbered
+use Rattle.form.proofs.names_in.Reads as names-in
 use Rattle.form.proofs.form.Reads as form
 use Rattle.form.proofs.expression_form.Reads as expression-form
 
@@ -26,3 +28,9 @@ is-followed-one k a x y e f p q = same p q
 
 pub declares-one : OneResult declares.Post
 declares-one k a x y e f p q = same p q
+
+pub is-numbered-one : OneResult is-numbered.Post
+is-numbered-one k a x y e f p q = same p q
+
+pub names-in-one : OneResult names-in.Post
+names-in-one k a x y e f p q = same p q

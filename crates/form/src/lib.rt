@@ -29,7 +29,7 @@ ghost use Rattle.refusals.specs.Answer.{pick};
 ghost use Rattle.refusals.specs.AnswerAt.{Fine, Fault};
 ghost use Rattle.refusals.specs.Says.{saysAt};
 ghost use Rattle.refusals.specs.Table.{cutShort};
-ghost use Rattle.form.specs.Form.{maxTape, pending, top, begin, expressionFault, outsideFault, headFault, rangeFault, instructionFault, idFault, declares, bodyFault, scopeFault, faultOf, hasExpression, followed, scopesAfter, after, stepOf, formOf, tapeForm, expressionForm};
+ghost use Rattle.form.specs.Form.{maxTape, pending, top, begin, expressionFault, outsideFault, headFault, rangeFault, instructionFault, idFault, declares, isNumbered, bodyFault, scopeFault, faultOf, hasExpression, followed, scopesAfter, after, stepOf, formOf, tapeForm, expressionForm};
 ghost use Rattle.form.specs.Statements.{isLast, isInner, isFollowed, whatOf};
 ghost use Rattle.form.specs.Steps.{places, Fit, Ready, view, saysStepped};
 
@@ -338,6 +338,23 @@ pub fn declares(kind: u8) -> bool
         return true;
     }
     kind == CONSTANT
+}
+
+// Whether what a record of this kind declares has a number: labels and constants.
+pub fn is_numbered(kind: u8) -> bool
+    ensures { λ r. ⌜ r ≡ isNumbered kind ⌝ }
+{
+    if kind == LABEL {
+        return true;
+    }
+    kind == CONSTANT
+}
+
+// How many names a record of this kind declares.
+pub fn names_in(kind: u8) -> usize
+    ensures { λ r. ⌜ r ≡ pick (declares kind) 1 0 ⌝ }
+{
+    if declares(kind) { 1 } else { 0 }
 }
 
 // The refusal that a record brings by the scopes that are open, or 0.

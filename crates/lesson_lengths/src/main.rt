@@ -12,7 +12,6 @@
 //             room = 251          or 252
 use builder::Built;
 use libc::STDOUT_FILENO;
-use passes::Numbers;
 use symbols::NODES;
 use tape::BINARY;
 use tape::BYTE;
@@ -24,6 +23,7 @@ use tape::LABEL;
 use tape::NAME_1;
 use tape::NUMBER;
 use tape::SET_PLACE;
+use walk::Numbers;
 
 // The names, each with a number of its own. Names are numbered here as they come on the tape, so that the node of each has the same
 // number.

@@ -7,19 +7,16 @@ use Prim.Native.Nat.{ℕ, zero, suc, _-_}
 use lib.IntN.{ℤ}
 use Rattle.refusals.specs.Answer.{pick}
 use Rattle.refusals.specs.AnswerAt.{Fine}
-use Rattle.refusals.specs.Each.{Each}
 use Rattle.form.specs.Statements.{Statement, isFollowed}
 use Rattle.evaluator.specs.Expression.{Value, Unresolved}
-use Rattle.passes.specs.declared.Walk.{Walk}
-use Rattle.passes.specs.Walk.{Origin, begin, here, step}
-use Rattle.passes.specs.Passes.{Values, numbered, numberOf, gives, readAt, stepAt, pass}
-use Rattle.passes.specs.Passes.{eqValue, same, leastFrom, limit, passes, repeats, settledBy, settled}
+use Rattle.walk.specs.declared.Walk.{Walk}
+use Rattle.walk.specs.Walk.{Origin, begin, here, step}
+use Rattle.walk.specs.Values.{Values, numbered, numberOf, readAt, stepAt, eqValue, same}
+use Rattle.walk.proofs.Agrees.{Alike}
+use Rattle.passes.specs.Passes.{gives, pass, leastFrom, limit, passes, repeats, settledBy, settled}
 
 module _ (r s : (ℕ → Option ℤ) → ℤ → ℕ → Value) where
-  abbrev pub Alike : List Statement → Type 0
-  Alike xs = Each (λ x. (numbers : ℕ → Option ℤ) (place : ℤ) → r numbers place (x .expression) ≡ s numbers place (x .expression)) xs
-
-  pub pass-alike : (xs : List Statement) → Alike xs → (numbers : ℕ → Option ℤ) (w : Walk) → pass r numbers w xs ≡ pass s numbers w xs
+  pub pass-alike : (xs : List Statement) → Alike r s xs → (numbers : ℕ → Option ℤ) (w : Walk) → pass r numbers w xs ≡ pass s numbers w xs
   unfolding pass
   pass-alike [] h numbers w = refl
   pass-alike (x ∷ xs) h numbers w =
@@ -28,7 +25,7 @@ module _ (r s : (ℕ → Option ℤ) → ℤ → ℕ → Value) where
       ap (λ (v : Option ℤ). gives w (x .says) v ++ pass r numbers (step w (x .says) v) xs) read
       ∙ ap (λ (L : Values). gives w (x .says) (readAt s numbers w x) ++ L) (pass-alike xs (h .1) numbers (stepAt s numbers w x))
 
-  module _ (xs : List Statement) (o : Origin) (h : Alike xs) where
+  module _ (xs : List Statement) (o : Origin) (h : Alike r s xs) where
     pub passes-alike : (n : ℕ) → passes r xs o n ≡ passes s xs o n
     unfolding passes
     passes-alike zero = refl

@@ -1,18 +1,15 @@
--- Arrays: one entry kept, and two that are alike up to an index. Assumes nothing.
+-- Arrays: one entry kept, and two entries compared. Assumes nothing.
 use mathlib.Core.Bool.{Bool, true, false, not, Bool·beq}
 use mathlib.Core.List.{List}
 use mathlib.Core.Option.{Option}
 use mathlib.Core.Path.{_≡_, refl, sym, ap, _∙_}
-use Prim.Native.Nat.{ℕ, _+_, _<_, _≤_}
-use native.Mathlib.Decide.{decLt}
-use native.Mathlib.Omega.{arith}
+use Prim.Native.Nat.{ℕ, _+_}
 use lib.IntN.{ℤ}
-use lib.ListN.{length, getD, set}
-use lib.Seq.{ext-getD}
+use lib.ListN.{getD, set}
 use Rattle.refusals.proofs.Never.{never}
 use Rattle.refusals.proofs.Pick.{at-true, at-false}
 use Rattle.form.specs.Form.{declares}
-use Rattle.passes.specs.declared.Walk.{Walk}
+use Rattle.walk.specs.declared.Walk.{Walk}
 use Rattle.passes.specs.Steps.{keptFor, keptIn}
 
 -- ---- what is kept of a record of kind k, where t tells whether it declares a name
@@ -32,7 +29,7 @@ module _ {A : Type 0} (l : List A) (w : Walk) (r : List ℕ) {k : ℕ} (is : k �
   unfolding keptIn
   not-kept e a = at-false _ _ (declared r is t-is e)
 
--- ---- two arrays
+-- ---- two entries
 
 pub differ : (a b : Bool) → not (Bool·beq a b) ≡ true → a ≡ b → ⊥
 differ true true e p = never (cc)
@@ -45,18 +42,3 @@ agree true true e = refl
 agree true false e = never (cc)
 agree false true e = never (cc)
 agree false false e = refl
-
-pub record UpTo {A : Type 0} (d : A) (l m : List A) (i : ℕ) : Type 0 where
-  pub alike : (j : ℕ) → j < i → getD l j d ≡ getD m j d
-
-module _ {A : Type 0} {d : A} {l m : List A} where
-  pub none-yet : UpTo d l m 0
-  none-yet = record { alike = λ j h. absurd (omega arith) }
-
-  pub one-more : {i : ℕ} → UpTo d l m i → getD l i d ≡ getD m i d → UpTo d l m (i + 1)
-  one-more {i} h e = record {
-    alike = λ j b. elim (decLt j i) [ yes p ↦ h .alike j p | no p ↦ let q : i ≡ j = omega arith in rw q at e ];
-  }
-
-  pub all-alike : {i n : ℕ} → UpTo d l m i → n ≤ i → length l ≡ n → length m ≡ n → l ≡ m
-  all-alike h le p q = ext-getD d l m (p ∙ sym q) (λ j b. h .alike j (omega arith))

@@ -6,45 +6,17 @@ use Prim.Native.Nat.{ℕ, _+_, _≤_, _<_}
 use native.Mathlib.Omega.{arith}
 use lib.Dec.{leb, ltb}
 use lib.ListN.{length, getD}
-use borrow.Author.Tests.{ltb-true, ne-eqb, le-leb, lt-leb, leb-true}
+use borrow.Author.Tests.{ltb-true, le-leb, lt-leb, leb-true}
 use Rattle.refusals.specs.Answer.{pick}
 use Rattle.refusals.proofs.Never.{never}
 use Rattle.symbols.specs.Edges.{maxNodes}
-use Rattle.tape.specs.Kinds.{instruction, openScope, label, constant}
 use Rattle.tape.specs.Record.{bytesAt}
 use Rattle.form.specs.Form.{declares, maxTape}
-use Rattle.form.specs.Statements.{isInner, isLast, statementsAt, statements}
-use Rattle.form.proofs.Statements.{not-empty, statements-past, statements-last, statements-inner, statements-one}
-use Rattle.passes.specs.Passes.{declarations}
+use Rattle.form.specs.Statements.{isLast, statementsAt, statements}
+use Rattle.form.proofs.Statements.{not-empty, statements-past, statements-last}
+use Rattle.walk.specs.Values.{declarations}
+use Rattle.walk.proofs.Counting.{here, next, names-on}
 use Rattle.passes.specs.Settle.{isAllowed}
-use Rattle.passes.proofs.Records.{names-said}
-
--- a record of an expression declares none
-pub inner-none : (r : List ℕ) → isInner r ≡ true → declares (getD r 0 0) ≡ false
-unfolding declares
-inner-none r e =
-    let k = getD r 0 0 in
-    let h = ltb-true k instruction e in
-    rw (ne-eqb k openScope (λ p. omega arith), ne-eqb k label (λ p. omega arith), ne-eqb k constant (λ p. omega arith))
-
-module _ (tape : List ℕ) (at : ℕ) where
-  abbrev here : List ℕ
-  here = bytesAt tape at
-
-  abbrev next : ℕ
-  next = at + length here
-
-  -- the names from a record on are its own, if it declares one, and those behind it
-  pub names-on : isLast here ≡ false
-      → declarations (statementsAt tape at) ≡ pick (declares (getD here 0 0)) 1 0 + declarations (statementsAt tape next)
-  names-on more = go (isInner here) refl
-    where
-      go : (i : Bool) → isInner here ≡ i
-          → declarations (statementsAt tape at) ≡ pick (declares (getD here 0 0)) 1 0 + declarations (statementsAt tape next)
-      go true i = ap declarations (statements-inner tape at more i) ∙ rw (inner-none here i) (omega arith)
-      go false i =
-          ap declarations (statements-one tape at more i)
-          ∙ ap (λ (n : ℕ). n + declarations (statementsAt tape next)) (omega (arith, names-said here (getD here 0 0) refl 0))
 
 -- n names were declared before the offset
 pub record Counted (tape : List ℕ) (n at : ℕ) : Type 0 where

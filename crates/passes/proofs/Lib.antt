@@ -4,9 +4,8 @@ pub mod Records
 pub mod Values
 pub mod Arrays
 pub mod Counting
-pub mod Columns
 pub mod Passing
-pub mod Equal
+pub mod First
 pub mod Settles
 pub mod Repeating
 pub mod Agrees

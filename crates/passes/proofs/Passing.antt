@@ -3,7 +3,7 @@ use mathlib.Core.Bool.{Bool, true, false}
 use mathlib.Core.List.{List, [], _∷_, _++_, append-nil, append-assoc}
 use mathlib.Core.Option.{Option, none, some}
 use mathlib.Core.Path.{_≡_, refl, sym, ap, subst, _∙_}
-use Prim.Native.Nat.{ℕ, _+_, _-_, _*_, _≤_, _<_, _^_}
+use Prim.Native.Nat.{ℕ, _+_, _*_, _≤_, _<_, _^_}
 use native.Mathlib.Omega.{arith}
 use lib.IntN.{ℤ, pos}
 use lib.ListN.{length, getD, set, length-append}
@@ -20,15 +20,18 @@ use Rattle.form.specs.Statements.{What, Instruction, Open, Close, Label, Consta
 use Rattle.form.specs.Statements.{Statement, isInner, isLast, statementsAt, statements}
 use Rattle.form.proofs.Statements.{not-empty, statements-past, statements-last, statements-inner, statements-one}
 use Rattle.form.proofs.Said.{by-kind}
-use Rattle.passes.specs.declared.Walk.{Walk}
-use Rattle.passes.specs.Walk as W
-use Rattle.passes.specs.Walk.{origin, begin, namesIn, step}
-use Rattle.passes.specs.Passes.{Values, numberOf, gives, pass, declarations}
-use Rattle.passes.specs.Settle.{numbersBy, readsNoted, valueOf, isAllowed}
+use Rattle.walk.specs.declared.Walk.{Walk}
+use Rattle.walk.specs.Walk as W
+use Rattle.walk.specs.Walk.{origin, begin, namesIn, step}
+use Rattle.walk.specs.Values.{Values, numberOf, declarations}
+use Rattle.walk.specs.Numbers.{numbersBy, readsNoted, valueOf}
+use Rattle.walk.proofs.Records.{inner-none, place-most}
+use Rattle.walk.proofs.Columns.{column, column-more}
+use Rattle.walk.proofs.Counting.{names-on}
+use Rattle.passes.specs.Passes.{gives, pass}
+use Rattle.passes.specs.Settle.{isAllowed}
 use Rattle.passes.specs.Steps.{stepOver, keptFor, keptIn}
-use Rattle.passes.proofs.Records.{place-most}
-use Rattle.passes.proofs.Counting.{inner-none, names-on, allowed}
-use Rattle.passes.proofs.Columns.{column, column-more}
+use Rattle.passes.proofs.Counting.{allowed}
 
 -- ---- what a statement gives
 

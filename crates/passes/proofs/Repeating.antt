@@ -14,12 +14,14 @@ use Rattle.refusals.specs.Table.{notSettled}
 use Rattle.symbols.specs.Edges.{maxNodes}
 use Rattle.form.specs.Statements.{Statement}
 use Rattle.evaluator.specs.Expression.{Value}
-use Rattle.passes.specs.declared.Numbers.{Numbers}
-use Rattle.passes.specs.Walk.{Origin, begin}
-use Rattle.passes.specs.Passes.{Values, pass, declarations, leastFrom, limit, passes, repeats, settled}
-use Rattle.passes.specs.Settle.{numbersIn, numbersBy, left}
+use Rattle.walk.specs.declared.Numbers.{Numbers}
+use Rattle.walk.specs.Walk.{Origin, begin}
+use Rattle.walk.specs.Values.{Values, declarations}
+use Rattle.walk.specs.Numbers.{numbersIn, numbersBy}
+use Rattle.walk.proofs.Columns.{no-names, by-node, apart, known-length, number-length}
+use Rattle.passes.specs.Passes.{pass, leastFrom, limit, passes, repeats, settled}
+use Rattle.passes.specs.Settle.{left}
 use Rattle.passes.specs.Steps.{Tells}
-use Rattle.passes.proofs.Columns.{no-names, by-node, apart, known-length, number-length}
 use Rattle.passes.proofs.Settles.{passes-length, repeats-true, repeats-same}
 
 -- before pass n, the first of which no repetition is known

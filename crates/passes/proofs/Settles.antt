@@ -13,12 +13,13 @@ use Rattle.refusals.specs.Table.{notSettled}
 use Rattle.refusals.proofs.Never as clash
 use Rattle.form.specs.Statements.{Statement}
 use Rattle.evaluator.specs.Expression.{Value}
-use Rattle.passes.specs.declared.Walk.{Walk}
-use Rattle.passes.specs.Walk.{Origin, begin}
-use Rattle.passes.specs.Passes.{Values, numbered, gives, readAt, stepAt, pass, declarations}
-use Rattle.passes.specs.Passes.{eqValue, same, leastFrom, limit, passes, repeats, settledBy, settled}
+use Rattle.walk.specs.declared.Walk.{Walk}
+use Rattle.walk.specs.Walk.{Origin, begin}
+use Rattle.walk.specs.Values.{Values, numbered, readAt, stepAt, declarations, eqValue, same}
+use Rattle.walk.proofs.Equal.{eqValue-true, eqValue-same, same-true, same-same}
+use Rattle.passes.specs.Passes.{gives, pass, leastFrom, limit, passes, repeats, settledBy, settled}
 use Rattle.passes.specs.Least.{Least}
-use Rattle.passes.proofs.Equal.{eqValue-true, eqValue-same, same-true, same-same, Found, least-found}
+use Rattle.passes.proofs.First.{Found, least-found}
 use Rattle.passes.proofs.Passing.{gives-length}
 
 -- ---- every pass has a value for every name

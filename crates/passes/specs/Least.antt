@@ -6,7 +6,7 @@ use mathlib.Core.Path.{_≡_}
 use lib.IntN.{ℤ}
 use Rattle.form.specs.Statements.{Statement}
 use Rattle.evaluator.specs.Expression.{Value}
-use Rattle.passes.specs.Walk.{Origin}
+use Rattle.walk.specs.Walk.{Origin}
 use Rattle.passes.specs.Passes.{limit, passes}
 
 -- "the least n, 1 to 16, with Ln equal to L(n-1)"

@@ -1,5 +1,4 @@
 -- The definitions that the contracts of this crate cite.
-pub mod Walk
 pub mod Passes
 pub mod Settle
 pub mod Least

@@ -11,8 +11,8 @@ use Rattle.refusals.specs.Answer.{pick}
 use Rattle.tape.specs.Kinds.{label, constant}
 use Rattle.form.specs.Form.{declares}
 use Rattle.form.specs.Statements.{isInner, whatOf}
-use Rattle.passes.specs.declared.Walk.{Walk}
-use Rattle.passes.specs.Walk.{here, step}
+use Rattle.walk.specs.declared.Walk.{Walk}
+use Rattle.walk.specs.Walk.{here, step}
 
 -- behind a record: those of expressions are passed over
 unfoldable pub stepOver : Walk → List ℕ → Option ℤ → Walk

@@ -1,6 +1,5 @@
 // The passes over a tape whose names have been resolved: each walks the tape from the initial place, reads the numbers that the pass
 // before it gave, and gives new ones, until a pass gives back what it read.
-use evaluator::Value;
 use form::LONGEST;
 use opcodes::Form;
 use opcodes::Forms;
@@ -14,23 +13,25 @@ use tape::INSTRUCTION;
 use tape::LABEL;
 use tape::SET_PLACE;
 use tape::WORD;
+use walk::Numbers;
+use walk::Walk;
 ghost use mathlib.Core.Bool.{true};
 ghost use mathlib.Core.List.{[], _∷_};
 ghost use mathlib.Core.Path.{_≡_};
 ghost use Prim.Native.Nat.{_+_, _<_, _^_};
 ghost use lib.ListN.{length, getD};
-ghost use Rattle.refusals.specs.Answer.{pick};
 ghost use Rattle.refusals.specs.AnswerAt.{Fault};
+ghost use Rattle.opcodes.specs.Says.{listed};
 ghost use Rattle.symbols.specs.Edges.{maxNodes};
 ghost use Rattle.symbols.specs.Symbols.{isKnown, numberOr0};
 ghost use Rattle.symbols.specs.Says.{saysData};
-ghost use Rattle.opcodes.specs.Says.{listed};
 ghost use Rattle.form.specs.Form.{declares};
 ghost use Rattle.form.specs.Statements.{whatOf, statements};
-ghost use Rattle.evaluator.specs.Says.{saysValue};
-ghost use Rattle.passes.specs.Walk.{origin, begin, formLength, lengthIn, movedTo, placeAfter};
-ghost use Rattle.passes.specs.Passes.{numberOf, pass, declarations, settled};
-ghost use Rattle.passes.specs.Settle.{numbersIn, numbersBy, readsNoted, valueOf, isAllowed, settleOf, passOnce, saysSettled, left};
+ghost use Rattle.walk.specs.Walk.{origin, begin, formLength, lengthIn, placeAfter};
+ghost use Rattle.walk.specs.Values.{declarations};
+ghost use Rattle.walk.specs.Numbers.{numbersIn, numbersBy, readsNoted};
+ghost use Rattle.passes.specs.Passes.{pass, settled};
+ghost use Rattle.passes.specs.Settle.{isAllowed, settleOf, passOnce, saysSettled, left};
 ghost use Rattle.passes.specs.Steps.{stepOver, keptFor, keptIn, Tells};
 
 // How many passes there are at most.
@@ -38,18 +39,6 @@ pub const LIMIT: usize = 16;
 
 // The greatest place.
 const LAST_PLACE: usize = 65536;
-
-// Between two statements: the place of the next byte, and how many names are declared.
-pub struct Walk {
-    pub place: usize,
-    pub names: usize,
-}
-
-// Of each node whether it has a number, and which.
-pub struct Numbers {
-    pub known: [bool; NODES],
-    pub number: [i64; NODES],
-}
 
 // How many passes there were, or the refusal.
 pub enum Passes {
@@ -84,27 +73,6 @@ pub fn pass_once<'a>(tape: &'a [u8], nodes: &'a [u16], numbers: Numbers, initial
         answer: Passes::After(1),
         numbers: pass(tape, nodes, &numbers.known, &numbers.number, initial),
     }
-}
-
-// What the expression behind a statement's record comes to; it begins at the offset `at`. Unresolved where there is none.
-pub fn value_of<'a>(
-    tape: &'a [u8],
-    nodes: &'a [u16],
-    known: &'a [bool; NODES],
-    number: &'a [i64; NODES],
-    place: i64,
-    rec: &'a [u8],
-    at: usize,
-) -> Value
-    ensures { λ r. ⌜ saysValue r
-        ≡ valueOf (now (tape .entry)) (now (nodes .entry)) (numbersIn (now (known .entry)) (now (number .entry))) place
-        (now (rec .entry)) at ⌝ }
-{
-    if !form::is_followed(rec) {
-        return Value::Unresolved(at);
-    }
-    let step = evaluator::expression_at(tape, nodes, known, number, place, at);
-    step.value
 }
 
 // No number, for this reason.
@@ -151,22 +119,10 @@ fn count(tape: &[u8]) -> usize
         if form::is_last(rec) {
             return names;
         }
-        names = names_after(names, little::u8_at(rec, 0));
+        names += form::names_in(little::u8_at(rec, 0));
         at += rec.len();
     }
     names
-}
-
-// One name more, where a record of this kind declares one.
-fn names_after(names: usize, kind: u8) -> usize
-    requires { ⌜ names + 1 < 2 ^ 64 ⌝ }
-    ensures { λ r. ⌜ r ≡ pick (declares kind) (names + 1) names ⌝ }
-{
-    if form::declares(kind) {
-        names + 1
-    } else {
-        names
-    }
 }
 
 // Pass after pass, until one gives back what it read.
@@ -272,22 +228,11 @@ fn pass_into<'a>(
             return;
         }
         let next = at + rec.len();
-        let value = value_of(tape, nodes, known, number, walk.place as i64, rec, next);
-        let read = number_of(value);
+        let value = walk::value_of(tape, nodes, known, number, walk.place as i64, rec, next);
+        let read = walk::number_of(value);
         keep(next_known, next_number, walk, rec, read);
         walk = step(walk, rec, read);
         at = next;
-    }
-}
-
-// What an expression counts for in a pass: a number, or unresolved.
-pub fn number_of(value: Value) -> Data
-    ensures { λ r. ⌜ saysData r ≡ numberOf (saysValue value) ⌝ }
-{
-    match value {
-        Value::Number(z) => Data::Number(z),
-        Value::Unresolved(_) => Data::Unresolved,
-        Value::Refused { .. } => Data::Unresolved,
     }
 }
 
@@ -333,7 +278,7 @@ fn step(walk: Walk, rec: &[u8], read: Data) -> Walk
     }
     Walk {
         place: place_after(walk.place, rec, read),
-        names: names_after(walk.names, little::u8_at(rec, 0)),
+        names: walk.names + form::names_in(little::u8_at(rec, 0)),
     }
 }
 
@@ -343,27 +288,9 @@ fn place_after(place: usize, rec: &[u8], read: Data) -> usize
     ensures { λ r. ⌜ r ≡ placeAfter (whatOf (now (rec .entry))) (saysData read) place ⌝ }
 {
     if little::u8_at(rec, 0) == SET_PLACE {
-        return moved_to(read, place);
+        return walk::moved_to(read, place);
     }
     place + length_in(rec, read)
-}
-
-// Where a set place leads: nowhere if unresolved or out of range.
-pub fn moved_to(read: Data, place: usize) -> usize
-    ensures { λ r. ⌜ r ≡ movedTo (saysData read) place ⌝ }
-{
-    match read {
-        Data::Unresolved => place,
-        Data::Number(z) => {
-            if z < 0 {
-                return place;
-            }
-            if (LAST_PLACE as i64) < z {
-                return place;
-            }
-            z as usize
-        }
-    }
 }
 
 // How many bytes a statement writes: a byte and a screen byte are one.

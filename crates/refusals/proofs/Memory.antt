@@ -5,8 +5,8 @@ use Prim.Native.Nat.{ℕ, zero, suc, _+_, _-_, _<_, _≤_}
 use native.Mathlib.Nat.{le-antisymm}
 use native.Mathlib.Numerals.{add-one}
 use native.Mathlib.Omega.{arith}
-use lib.ListN.{length, take, drop, getD, set, replicate, length-append, length-drop, take-append-drop}
-use lib.Seq.{take-at, drop-at, drop-drop, getD-drop, length-take-le}
+use lib.ListN.{length, take, drop, getD, set, replicate, length-append, length-drop, take-append-drop, List·getD-append}
+use lib.Seq.{take-at, drop-at, drop-drop, getD-take, getD-drop, getD-append-add, length-take-le}
 use Rattle.refusals.specs.Memory.{over}
 
 module _ (m : List ℕ) (at : ℕ) where
@@ -58,6 +58,30 @@ module _ (m : List ℕ) (at : ℕ) where
         ∙ ap (λ (l : List ℕ). take at m ++ xs ++ ys ++ l) (sym (drop-drop (length ys) n (over m at xs)) ∙ ap (drop (length ys)) drop-over ∙ drop-drop (length ys) n m)
         ∙ ap (λ (l : List ℕ). l ++ drop (n + length ys) m) (append-assoc (take at m) xs ys)
         ∙ ap (λ (k : ℕ). take at m ++ (xs ++ ys) ++ drop k m) e
+
+module _ (m : List ℕ) (at : ℕ) (xs : List ℕ) (room : at ≤ length m) where
+  -- before them, all is as it was
+  pub over-before : (a : ℕ) → a < at → getD (over m at xs) a 0 ≡ getD m a 0
+  unfolding over
+  over-before a l =
+      ap (λ (k : List ℕ). getD k a 0) (append-assoc (take at m) xs (drop (at + length xs) m))
+      ∙ List·getD-append (take at m) (xs ++ drop (at + length xs) m) 0 a (omega (arith, length-take-le at m room))
+      ∙ getD-take at m a 0 l
+
+  -- then they stand there
+  pub over-at : (k : ℕ) → k < length xs → getD (over m at xs) (at + k) 0 ≡ getD xs k 0
+  unfolding over
+  over-at k l =
+      ap (λ (z : List ℕ). getD z (at + k) 0) (append-assoc (take at m) xs (drop (at + length xs) m))
+      ∙ ap (λ (n : ℕ). getD (take at m ++ (xs ++ drop (at + length xs) m)) (n + k) 0) (sym (length-take-le at m room))
+      ∙ getD-append-add (take at m) (xs ++ drop (at + length xs) m) k 0
+      ∙ List·getD-append xs (drop (at + length xs) m) 0 k l
+
+-- zeros are zero, past their end too
+pub getD-zeros : (n a : ℕ) → getD {A = ℕ} (replicate n 0) a 0 ≡ 0
+getD-zeros zero a = refl
+getD-zeros (suc n) zero = refl
+getD-zeros (suc n) (suc a) = getD-zeros n a
 
 -- ---- the same at every place, written from the first on
 

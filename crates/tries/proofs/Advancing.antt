@@ -15,10 +15,10 @@ use Rattle.opcodes.specs.declared.Code.{Code}
 use Rattle.opcodes.specs.Encode.{code}
 use Rattle.form.specs.Statements.{whatOf, isInner, statementOf, placed}
 use Rattle.evaluator.specs.Expression.{Value}
-use Rattle.passes.specs.declared.Walk.{Walk}
-use Rattle.passes.specs.Walk.{here, step}
-use Rattle.passes.specs.Passes.{numberOf, valueAt, stepAt}
-use Rattle.passes.specs.Settle.{readsNoted, valueOf}
+use Rattle.walk.specs.declared.Walk.{Walk}
+use Rattle.walk.specs.Walk.{here, step}
+use Rattle.walk.specs.Values.{numberOf, valueAt, stepAt}
+use Rattle.walk.specs.Numbers.{readsNoted, valueOf}
 use Rattle.tries.specs.declared.Compares.{Compares}
 use Rattle.tries.specs.Try.{tryOf}
 use Rattle.tries.specs.Tries.{Page, drawn, Trying, trying, tryAt, tried}

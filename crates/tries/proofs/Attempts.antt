@@ -23,12 +23,12 @@ use Rattle.opcodes.proofs.Encoding.{modZ-below}
 use Rattle.text_encoding.specs.Petscreen.{petscreenOf}
 use Rattle.tape.specs.Kinds.{instruction, openScope, closeScope, label, constant, setPlace, byte}
 use Rattle.form.specs.Statements.{What, Instruction, Open, Close, Label, Constant, SetPlace, Byte, Word, Screen, whatOf, isFollowed, placed}
+use Rattle.form.proofs.Said.{whatBy, by-kind}
 use Rattle.evaluator.specs.declared.Value as Val
 use Rattle.evaluator.specs.declared.Value.the-variants as came
 use Rattle.evaluator.specs.Expression.{Value, Number, Unresolved, Refuses}
 use Rattle.evaluator.specs.Says.{saysValue}
-use Rattle.passes.specs.Walk.{isPlace}
-use Rattle.form.proofs.Said.{whatBy, by-kind}
+use Rattle.walk.specs.Walk.{isPlace}
 use Rattle.tries.specs.declared.Compares.{Compares}
 use Rattle.tries.specs.Try.{given, compared, instructionOf, tryOf}
 

@@ -1,5 +1,4 @@
 -- Bytes, drawn at a place; and the walk behind them. Assumes nothing.
-use mathlib.Core.Bool.{Bool, true, false}
 use mathlib.Core.List.{List, [], _∷_}
 use mathlib.Core.Option.{Option}
 use mathlib.Core.Path.{_≡_, refl, sym, ap, _∙_}
@@ -8,7 +7,7 @@ use lib.IntN.{ℤ}
 use lib.ListN.{length, take}
 use lib.Seq.{length-take-le}
 use borrow.Author.Tests.{eq-eqb, ne-eqb}
-use Rattle.refusals.specs.Answer.{Answer, Done, Refused, mapped, andThen}
+use Rattle.refusals.specs.Answer.{Answer, Done, Refused, mapped, andThen, pick}
 use Rattle.refusals.specs.AnswerAt as At
 use Rattle.refusals.specs.AnswerAt.{AnswerAt, Fine, Fault}
 use Rattle.refusals.specs.declared.Outcome.{Outcome}
@@ -25,9 +24,9 @@ use Rattle.tape.specs.Kinds.{setPlace}
 use Rattle.form.specs.Form.{declares}
 use Rattle.form.specs.Statements.{placed}
 use Rattle.evaluator.specs.Expression.{Value}
-use Rattle.passes.specs.declared.Walk.{Walk}
-use Rattle.passes.specs.Walk.{walk, movedTo}
-use Rattle.passes.specs.Passes.{numberOf}
+use Rattle.walk.specs.declared.Walk.{Walk}
+use Rattle.walk.specs.Walk.{walk, movedTo}
+use Rattle.walk.specs.Values.{numberOf}
 use Rattle.tries.specs.Tries.{Page, page, drawn, Trying, trying}
 use Rattle.tries.specs.Steps.{bytesIn, drawnBy, saysDrawn, placeBehind, walkBehind}
 
@@ -109,14 +108,10 @@ module _ (k : ℕ) (v : Value) (place n : ℕ) where
   unfolding placeBehind
   behind-bytes e = rw (ne-eqb k setPlace e)
 
-module _ (w : Walk) (k : ℕ) (v : Value) (n : ℕ) {place : ℕ} (p : place ≡ placeBehind k v (w .place) n) {t : Bool} (h : t ≡ declares k) where
-  pub behind-name : t ≡ true → walk place (w .names + 1) ≡ walkBehind w k v n
-  unfolding walkBehind
-  behind-name e = rw (← h, e, p)
-
-  pub behind-other : t ≡ false → walk place (w .names) ≡ walkBehind w k v n
-  unfolding walkBehind
-  behind-other e = rw (← h, e, p)
+pub behind-both : (w : Walk) (k : ℕ) (v : Value) (n : ℕ) {place m : ℕ} → place ≡ placeBehind k v (w .place) n
+    → m ≡ pick (declares k) (w .names + 1) (w .names) → walk place m ≡ walkBehind w k v n
+unfolding walkBehind
+behind-both w k v n p e = rw (p, e)
 
 -- a: what the bytes come to, where the walk behind them is w
 module _ (w : Walk) (at : ℕ) (a : Answer Page) (d : Drawn) (image : List ℕ) (is : saysDrawn d image ≡ a) where

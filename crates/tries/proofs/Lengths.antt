@@ -25,10 +25,10 @@ use Rattle.text_encoding.specs.Petscreen.{petscreenOf}
 use Rattle.tape.specs.Kinds.{setPlace}
 use Rattle.form.specs.Statements.{What, Instruction, Open, Close, Label, Constant, SetPlace, Byte, Word, Screen, whatOf, placed}
 use Rattle.evaluator.specs.Expression.{Value, Number, Unresolved, Refuses}
-use Rattle.passes.specs.declared.Walk.{Walk}
-use Rattle.passes.specs.Walk.{walk, isPlace, formLength, lengthIn, movedTo, placeAfter, step}
-use Rattle.passes.specs.Passes.{numberOf, eqValue}
-use Rattle.passes.proofs.Records.{names-said, place-set, place-other, few-bytes}
+use Rattle.walk.specs.declared.Walk.{Walk}
+use Rattle.walk.specs.Walk.{walk, isPlace, formLength, lengthIn, movedTo, placeAfter, step}
+use Rattle.walk.specs.Values.{numberOf, eqValue}
+use Rattle.walk.proofs.Records.{names-said, place-set, place-other, few-bytes}
 use Rattle.tries.specs.declared.Compares.{Compares}
 use Rattle.tries.specs.Try.{given, compared, instructionOf, tryOf}
 use Rattle.tries.specs.Steps.{placeBehind, walkBehind}

@@ -8,7 +8,7 @@ use Prim.Native.Nat.{ℕ, zero, suc, _+_, _≤_, _<_}
 use native.Mathlib.Omega.{arith}
 use lib.Dec.{eqb}
 use lib.IntN.{ℤ, pos}
-use lib.ListN.{length, getD, drop, replicate, length-replicate}
+use lib.ListN.{length, getD, drop, replicate}
 use borrow.Author.Tests.{eq-eqb, ne-eqb, le-leb, eqb-true, eqb-false, ltb-false, not-true}
 use Rattle.refusals.specs.Answer as A
 use Rattle.refusals.specs.Answer.{Answer, Done, Refused, pick}
@@ -23,28 +23,28 @@ use Rattle.opcodes.specs.Encode.{takes, bytesOf, encodeForms, inRange, encodeOf
 use Rattle.opcodes.specs.Branch.{offset, inReach, distanceOf}
 use Rattle.segment.specs.declared.Pen.{Pen}
 use Rattle.segment.specs.Segment.{sound, soundOver, ofPen, ofBoth, setPc, fits, widened, emit, imageAfter}
-use Rattle.segment.proofs.Laws.{new-is}
-use Rattle.segment.proofs.Kept.{new-sound, set-pc-sound, emit-sound, emit-length}
+use Rattle.segment.proofs.Kept.{set-pc-sound, emit-sound, emit-length}
 use Rattle.tape.specs.Kinds.{flags, binary, instruction, end}
 use Rattle.tape.specs.Record.{bytesAt}
-use Rattle.form.specs.Form.{Pending, pending, begin, instructionFault, bodyFault, scopeFault, faultOf}
-use Rattle.form.specs.Form.{top, hasExpression, followed, scopesAfter, after, tapeForm}
+use Rattle.form.specs.Form.{Pending, pending, begin, instructionFault, bodyFault, scopeFault, faultOf, top, hasExpression, followed}
+use Rattle.form.specs.Form.{scopesAfter, after, tapeForm}
 use Rattle.form.specs.Statements.{What, Instruction, Open, Close, Label, Constant, SetPlace, Byte, Word, Screen, whatOf, isFollowed}
 use Rattle.form.specs.Statements.{Statement, statementOf, isInner, statementsAt, statements, placed}
 use Rattle.form.proofs.Faults.{body-instruction}
 use Rattle.form.proofs.Sound.{Sound, form-sound, sound-fault}
 use Rattle.form.proofs.Statements.{followed-instruction, followed-other, not-empty, statements-past, statements-last, sound-on, sound-last}
 use Rattle.form.proofs.Numbers.{RefusedBy, FaultBy, placed-by}
+use Rattle.form.proofs.Said.{by-kind}
 use Rattle.evaluator.specs.Expression.{Value, Number, Unresolved, Refuses}
 use Rattle.evaluator.specs.Accepted.{Computed}
-use Rattle.passes.specs.Walk.{Origin, isPlace, here}
-use Rattle.passes.specs.Passes.{eqValue, valueAt, stepAt}
-use Rattle.form.proofs.Said.{by-kind}
+use Rattle.walk.specs.Walk.{Origin, isPlace, here}
+use Rattle.walk.specs.Values.{eqValue, valueAt, stepAt}
 use Rattle.tries.specs.declared.Compares.{Compares}
 use Rattle.tries.specs.Try.{given, compared, instructionOf, tryOf}
-use Rattle.tries.specs.Tries.{Page, page, blank, drawn, Trying, trying, start, tryAt, tried, tries}
+use Rattle.tries.specs.Tries.{Page, page, drawn, Trying, trying, start, tryAt, tried, tries}
 use Rattle.tries.specs.Steps.{triedOver}
 use Rattle.tries.proofs.Walking.{over-low, over-one}
+use Rattle.tries.proofs.Sound.{Whole, whole-blank}
 
 -- ---- what an accepted record says
 
@@ -94,18 +94,6 @@ followed-one r outer e =
         let h : Bool = hasExpression (getD r 0 0) in
         let has : h ≡ true = followed-other r (getD r 0 0) refl (eqb-false _ instruction is) {h = h} refl ∙ e in
         rw has
-
--- ---- what is written: a sound pen, over an image of 65,536 bytes
-
-record Whole (p : Page) : Type 0 where
-  pen : sound (p .pen) ≡ true
-  image : length (p .image) ≡ 65536
-
-blank-whole : (o : Origin) → o .initial ≤ 65536 → Whole (blank o)
-blank-whole o low = record {
-  pen = new-sound (o .initial) (o .initial) (sym (new-is (o .initial) (o .initial) low low refl));
-  image = length-replicate {A = ℕ} 65536 0;
-}
 
 module _ (P : ℕ → Type 0) (far : P tooFar) (small : P tooSmall) (room : P outside) where
   -- ---- an instruction of a row
@@ -332,4 +320,4 @@ module _ (P : ℕ → Type 0) (far : P tooFar) (small : P tooSmall) (room : P ou
         pub tries-number : tapeForm tape ≡ Fine tt → (o : Origin) → o .initial ≤ 65536
             → FaultBy P (tries reads c numbers (start o) (statements tape))
         tries-number fine o low =
-            tries-from (length tape) (start o) 0 (begin false) (omega arith) (form-sound false tape fine) low (blank-whole o low)
+            tries-from (length tape) (start o) 0 (begin false) (omega arith) (form-sound false tape fine) low (whole-blank o low)

@@ -18,10 +18,6 @@ use Rattle.refusals.specs.AnswerAt.{AnswerAt, Fine, Fault}
 use Rattle.refusals.specs.Table.{outside}
 use Rattle.refusals.proofs.Pick.{granted, at-true, stopped}
 use Rattle.int64.proofs.Laws.{back, eqZ-yes, eqZ-no, same-bits}
-use Rattle.symbols.specs.declared.Data as D
-use Rattle.symbols.specs.declared.Data.the-variants as datum
-use Rattle.symbols.specs.Says.{saysData}
-use Rattle.symbols.specs.Symbols.{numberAt}
 use Rattle.opcodes.specs.declared.Code.{Code}
 use Rattle.opcodes.specs.declared.Distance as B
 use Rattle.opcodes.specs.declared.Distance.the-variants as distance
@@ -31,10 +27,14 @@ use Rattle.opcodes.specs.Manual.{isBranch}
 use Rattle.opcodes.specs.Encode.{code, lowFirst, encodeOf}
 use Rattle.opcodes.specs.Branch.{distanceOf}
 use Rattle.opcodes.specs.Says.{saysEncoded, saysDistance}
+use Rattle.symbols.specs.declared.Data as D
+use Rattle.symbols.specs.declared.Data.the-variants as datum
+use Rattle.symbols.specs.Says.{saysData}
+use Rattle.symbols.specs.Symbols.{numberAt}
 use Rattle.form.specs.Statements.{placed}
-use Rattle.passes.specs.Walk.{isPlace}
-use Rattle.passes.specs.Settle.{numbersIn}
-use Rattle.passes.proofs.Values.{below, beyond, within}
+use Rattle.walk.specs.Walk.{isPlace}
+use Rattle.walk.specs.Numbers.{numbersIn}
+use Rattle.walk.proofs.Values.{below, beyond, within}
 use Rattle.tries.specs.Try.{compared, instructionOf}
 
 -- ---- the number of a node in the list

@@ -23,11 +23,11 @@ use Rattle.form.specs.Form.{declares}
 use Rattle.form.specs.Statements.{What, Instruction, Open, Close, Label, Constant, SetPlace, Byte, Word, Screen, whatOf, isInner, isLast, statementOf, statements, statementsAt, placed}
 use Rattle.form.proofs.Statements.{not-empty, statements-past, statements-last, statements-inner, statements-one}
 use Rattle.evaluator.specs.Expression.{Value}
-use Rattle.passes.specs.declared.Walk.{Walk}
-use Rattle.passes.specs.Walk.{origin, walk, here, lengthIn, placeAfter, namesIn, step}
-use Rattle.passes.specs.Passes.{numberOf, valueAt, stepAt}
-use Rattle.passes.specs.Settle.{readsNoted}
-use Rattle.passes.proofs.Records.{names-said, moved-most}
+use Rattle.walk.specs.declared.Walk.{Walk}
+use Rattle.walk.specs.Walk.{origin, walk, here, lengthIn, placeAfter, namesIn, step}
+use Rattle.walk.specs.Values.{numberOf, valueAt, stepAt}
+use Rattle.walk.specs.Numbers.{readsNoted}
+use Rattle.walk.proofs.Records.{names-said, moved-most}
 use Rattle.tries.specs.declared.Compares.{Compares}
 use Rattle.tries.specs.declared.Stepped.{Stepped}
 use Rattle.tries.specs.Tries.{Page, page, drawn, Trying, trying, start, tryAt, tried, tries}

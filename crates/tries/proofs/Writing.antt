@@ -11,8 +11,8 @@ use Rattle.refusals.specs.Table.{argument}
 use Rattle.refusals.proofs.Never.{never}
 use Rattle.refusals.proofs.Pick.{at-true, at-false}
 use Rattle.form.specs.Form.{maxTape}
-use Rattle.passes.specs.declared.Numbers.{Numbers}
-use Rattle.passes.specs.Settle.{numbersIn}
+use Rattle.walk.specs.declared.Numbers.{Numbers}
+use Rattle.walk.specs.Numbers.{numbersIn}
 use Rattle.tries.specs.declared.Compares.{Compares}
 use Rattle.tries.specs.declared.Written as W
 use Rattle.tries.specs.declared.Written.the-variants as written

@@ -18,9 +18,9 @@ use Rattle.tape.specs.Kinds.{setPlace}
 use Rattle.form.specs.Form.{declares}
 use Rattle.form.specs.Statements.{isInner, statementOf}
 use Rattle.evaluator.specs.Expression.{Value}
-use Rattle.passes.specs.declared.Walk.{Walk}
-use Rattle.passes.specs.Walk.{walk, movedTo}
-use Rattle.passes.specs.Passes.{numberOf}
+use Rattle.walk.specs.declared.Walk.{Walk}
+use Rattle.walk.specs.Walk.{walk, movedTo}
+use Rattle.walk.specs.Values.{numberOf}
 use Rattle.tries.specs.declared.Compares.{Compares}
 use Rattle.tries.specs.declared.Tried as T
 use Rattle.tries.specs.declared.Tried.the-variants as cases

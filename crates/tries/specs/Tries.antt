@@ -11,9 +11,9 @@ use Rattle.segment.specs.declared.Pen.{Pen}
 use Rattle.segment.specs.Segment.{size, begun, setPc, emit, imageAfter}
 use Rattle.form.specs.Statements.{Statement, placed}
 use Rattle.evaluator.specs.Expression.{Value}
-use Rattle.passes.specs.declared.Walk.{Walk}
-use Rattle.passes.specs.Walk.{Origin, begin, here}
-use Rattle.passes.specs.Passes.{valueAt, stepAt}
+use Rattle.walk.specs.declared.Walk.{Walk}
+use Rattle.walk.specs.Walk.{Origin, begin, here}
+use Rattle.walk.specs.Values.{valueAt, stepAt}
 use Rattle.tries.specs.declared.Compares.{Compares}
 use Rattle.tries.specs.Try.{tryOf}
 

@@ -10,9 +10,9 @@ use Rattle.refusals.specs.Table.{argument}
 use Rattle.segment.specs.Segment.{size}
 use Rattle.form.specs.Form.{maxTape}
 use Rattle.form.specs.Statements.{statements}
-use Rattle.passes.specs.declared.Numbers.{Numbers}
-use Rattle.passes.specs.Walk.{origin}
-use Rattle.passes.specs.Settle.{numbersIn, readsNoted}
+use Rattle.walk.specs.declared.Numbers.{Numbers}
+use Rattle.walk.specs.Walk.{origin}
+use Rattle.walk.specs.Numbers.{numbersIn, readsNoted}
 use Rattle.tries.specs.declared.Compares.{Compares}
 use Rattle.tries.specs.declared.Written as W
 use Rattle.tries.specs.declared.Written.the-variants as written

@@ -5,8 +5,6 @@ use form::LONGEST;
 use opcodes::Code;
 use opcodes::Distance;
 use opcodes::Encoded;
-use passes::Numbers;
-use passes::Walk;
 use refusals::ARGUMENT;
 use refusals::OUTSIDE;
 use refusals::Outcome;
@@ -23,6 +21,8 @@ use tape::INSTRUCTION;
 use tape::LABEL;
 use tape::OPEN_SCOPE;
 use tape::SET_PLACE;
+use walk::Numbers;
+use walk::Walk;
 ghost use mathlib.Core.Bool.{true, false};
 ghost use mathlib.Core.List.{[], _∷_};
 ghost use mathlib.Core.Path.{_≡_};
@@ -32,16 +32,16 @@ ghost use Rattle.refusals.specs.Answer.{pick, mapped};
 ghost use Rattle.refusals.specs.AnswerAt as At;
 ghost use Rattle.refusals.specs.AnswerAt.{Fine, Fault};
 ghost use Rattle.refusals.specs.Table.{outside};
+ghost use Rattle.opcodes.specs.Encode.{code, lowFirst, encodeOf};
+ghost use Rattle.opcodes.specs.Says.{saysEncoded};
 ghost use Rattle.segment.specs.Segment.{size, begun};
 ghost use Rattle.symbols.specs.Says.{saysData};
 ghost use Rattle.form.specs.Form.{maxTape};
 ghost use Rattle.form.specs.Statements.{whatOf, isFollowed, statements, placed};
-ghost use Rattle.opcodes.specs.Encode.{code, lowFirst, encodeOf};
-ghost use Rattle.opcodes.specs.Says.{saysEncoded};
 ghost use Rattle.evaluator.specs.Expression as E;
 ghost use Rattle.evaluator.specs.Says.{saysValue};
-ghost use Rattle.passes.specs.Settle.{numbersIn, readsNoted};
-ghost use Rattle.passes.specs.Walk.{origin, isPlace};
+ghost use Rattle.walk.specs.Numbers.{numbersIn, readsNoted};
+ghost use Rattle.walk.specs.Walk.{origin, isPlace};
 ghost use Rattle.tries.specs.Try.{compared, instructionOf, tryOf};
 ghost use Rattle.tries.specs.Tries.{page, drawn, trying, start, tries};
 ghost use Rattle.tries.specs.Write.{writeOf, rangeOf, saysWritten, imageOr};
@@ -239,7 +239,7 @@ fn advance<'a>(
         };
     }
     let place = walk.place as i64;
-    let value = passes::value_of(tape, nodes, known, number, place, rec, at + rec.len());
+    let value = walk::value_of(tape, nodes, known, number, place, rec, at + rec.len());
     let own = own_number(known, number, walk.names);
     match attempt(compares, own, place, rec, at, value) {
         Tried::Refused { number: n, at: i } => Stepped {
@@ -331,11 +331,7 @@ fn behind(walk: Walk, kind: u8, value: Value, len: usize) -> Walk
 {
     Walk {
         place: place_behind(kind, value, walk.place, len),
-        names: if form::declares(kind) {
-            walk.names + 1
-        } else {
-            walk.names
-        },
+        names: walk.names + form::names_in(kind),
     }
 }
 
@@ -345,7 +341,7 @@ fn place_behind(kind: u8, value: Value, place: usize, len: usize) -> usize
     ensures { λ r. ⌜ r ≡ placeBehind kind (saysValue value) place len ⌝ }
 {
     if kind == SET_PLACE {
-        return passes::moved_to(passes::number_of(value), place);
+        return walk::moved_to(walk::number_of(value), place);
     }
     place + len
 }

@@ -4,7 +4,7 @@ use Prim.Native.Nat.{ℕ}
 use lib.IntN.{pos}
 use lib.ListN.{replicate}
 use Rattle.refusals.proofs.Pick.{granted, stopped, at-true}
-use Rattle.passes.specs.Walk.{origin}
+use Rattle.walk.specs.Walk.{origin}
 use Rattle.builder.specs.Build as Build
 use Rattle.builder.specs.Call.{memory, left, buildOf}
 use Rattle.builder.proofs.Names.{allowed}

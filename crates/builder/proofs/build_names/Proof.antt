@@ -1,8 +1,9 @@
 -- The names are declared and resolved, or refused; then the passes. Assumes nothing.
 use mathlib.Core.Path.{sym, _∙_}
-use Rattle.passes.specs.Walk.{origin}
+use Rattle.walk.specs.Walk.{origin}
+use Rattle.reads.proofs.Names.{names-refused, names-done, declare-is, few-names}
 use Rattle.builder.specs.Build.{built}
-use Rattle.builder.proofs.Names.{names-refused, names-done, declare-is, few-names, built-fault, built-noted}
+use Rattle.builder.proofs.Names.{built-fault, built-noted}
 use Rattle.builder.proofs.Builds.{left-refused, left-same}
 use borrow.Author.Needs.{needs}
 use Rattle.builder.proofs.build_names.Statement.{statement}

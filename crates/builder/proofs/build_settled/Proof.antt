@@ -1,9 +1,10 @@
 -- The passes settle, or do not; then the tries. Assumes nothing.
 use mathlib.Core.Path.{sym, ap, _∙_}
 use Rattle.form.specs.Statements.{statements}
-use Rattle.passes.specs.Walk.{origin}
+use Rattle.walk.specs.Walk.{origin}
+use Rattle.walk.specs.Numbers.{readsNoted}
 use Rattle.passes.specs.Passes as Passes
-use Rattle.passes.specs.Settle.{readsNoted, settleOf, left}
+use Rattle.passes.specs.Settle.{settleOf, left}
 use Rattle.builder.specs.Build.{builtBy}
 use Rattle.builder.proofs.Builds.{settle-allowed, settled-refused, settled-after, built-refused, built-after, left-refused, left-same}
 use borrow.Author.Needs.{needs}

@@ -5,7 +5,8 @@ use Rattle.form.specs.Statements.{statements}
 use Rattle.tries.specs.Write.{triedAll, rangeOf, imageOr}
 use Rattle.builder.specs.Build.{builder}
 use Rattle.builder.specs.Steps.{finishedIn, triedIn}
-use Rattle.builder.proofs.Builds.{write-allowed, tried-refused, tried-done}
+use Rattle.tries.proofs.Agrees.{write-allowed}
+use Rattle.builder.proofs.Builds.{tried-refused, tried-done}
 use borrow.Author.Needs.{needs}
 use Rattle.builder.proofs.build_tried.Statement.{statement}
 use Rattle.builder.proofs.build_tried.Tie as tie

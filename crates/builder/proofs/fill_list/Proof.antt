@@ -5,7 +5,9 @@ use native.Mathlib.Omega.{arith}
 use lib.IntN.{pos}
 use lib.ListN.{length, getD, drop}
 use lib.Seq.{getD-drop}
+use Rattle.form.specs.Form.{declares}
 use Rattle.form.specs.Statements.{isLast}
+use Rattle.form.proofs.Said.{names-one, names-more}
 use Rattle.form.proofs.Statements.{statements-past, statements-last}
 use Rattle.builder.proofs.Lists.{Listing, listing-start, listing-room, listing-done, listing-free, listing-on, has-bytes, within}
 use borrow.Author.Needs.{needs}
@@ -51,8 +53,14 @@ listed-requires c κs =
       listing-room _ _ kept .0,
     )
 
-names-after-requires : tie.Need-names-after-requires Inv-loop μ-loop
-names-after-requires c κs = listing-room _ _ (c .before .before .before .before .before .before .before .before .loop .inv .0) .1
+names-in-requires : tie.Need-names-in-requires Inv-loop μ-loop
+names-in-requires c κs = search needs
+
+add-names : tie.Need-add-names Inv-loop μ-loop
+add-names c =
+    let read = c .before .before .before .before in
+    let turn = read .before .before .before .before .before in
+    omega (arith, listing-room _ _ (turn .loop .inv .0) .1, names-one (declares (read .u8-at .result)) (c .names-in .ensures))
 
 add-at : tie.Need-add-at Inv-loop μ-loop
 add-at c =
@@ -77,7 +85,8 @@ loop-again c =
     let number = turn .before .before .args .number .now in
     let here = sym (getD-drop (turn .loop .names) (drop 1 number) 0 (pos 0) ∙ getD-drop 1 number (turn .loop .names + 0) (pos 0)) in (
       listing-on _ _ (turn .loop .inv .0) (found .«record» .ensures) (sym (more .before .is-last .ensures) ∙ more .if1 .left) _ (read .u8-at .ensures)
-          (ap (λ (n : ℕ). getD number n (pos 0)) (omega arith) ∙ here) (listed .listed .ensures .1) (listed .listed .ensures .0) (c .names-after .ensures),
+          (ap (λ (n : ℕ). getD number n (pos 0)) (omega arith) ∙ here) (listed .listed .ensures .1) (listed .listed .ensures .0)
+          (names-more (declares (read .u8-at .result)) (c .names-in .ensures) _),
       within _ _ (found .«record» .ensures) (turn .loop .inv .1),
       c .before .list .given ∙ turn .loop .inv .2,
     )
@@ -101,7 +110,8 @@ fill-list-spec =
     returns
     u8-at-requires
     listed-requires
-    names-after-requires
+    names-in-requires
+    add-names
     add-at
     loop-less
     loop-again

@@ -3,8 +3,10 @@ use mathlib.Core.Path.{sym, _∙_}
 use Prim.Native.Nat.{_-_}
 use native.Mathlib.Omega.{arith}
 use lib.ListN.{length}
-use Rattle.evaluator.proofs.Meanings.{ends}
+use Rattle.form.specs.Form.{declares}
+use Rattle.form.proofs.Said.{names-one, names-more}
 use Rattle.form.proofs.Statements.{not-empty}
+use Rattle.evaluator.proofs.Meanings.{ends}
 use Rattle.passes.proofs.Counting.{Counted, counted-start, counted-past, counted-last, counted-on}
 use Rattle.passes.proofs.count.Statement.{statement}
 use Rattle.passes.proofs.count.Tie as tie
@@ -33,10 +35,13 @@ returns c =
 u8-at-requires : tie.Need-u8-at-requires Inv-loop μ-loop
 u8-at-requires c κs = tt
 
-names-after-requires : tie.Need-names-after-requires Inv-loop μ-loop
-names-after-requires c κs =
-    let turn = c .before .before .before .before in
-    omega (arith, turn .loop-test .taken, turn .before .loop .inv .few)
+names-in-requires : tie.Need-names-in-requires Inv-loop μ-loop
+names-in-requires c κs = tt
+
+add-names : tie.Need-add-names Inv-loop μ-loop
+add-names c =
+    let turn = c .before .before .before .before .before in
+    omega (arith, turn .loop-test .taken, turn .before .loop .inv .few, names-one (declares (c .before .u8-at .result)) (c .names-in .ensures))
 
 add-at : tie.Need-add-at Inv-loop μ-loop
 add-at c =
@@ -59,7 +64,7 @@ loop-again c =
     let asked = tested .before in
     let found = asked .before in
     counted-on (found .before .before .loop .inv) (found .«record» .ensures) (asked .is-last .ensures) (tested .if1 .left)
-    (kind .u8-at .ensures) (c .names-after .ensures)
+    (kind .u8-at .ensures) (names-more (declares (kind .u8-at .result)) (c .names-in .ensures) _)
 
 returns-2 : tie.Need-returns-2 Inv-loop μ-loop
 returns-2 c = counted-past (c .before .loop .inv) (c .loop-test .left)
@@ -75,7 +80,8 @@ count-spec =
     is-last-requires
     returns
     u8-at-requires
-    names-after-requires
+    names-in-requires
+    add-names
     add-at
     loop-less
     loop-again

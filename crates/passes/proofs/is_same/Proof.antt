@@ -8,7 +8,8 @@ use mir.Syntax.{w64}
 use mir.Val.{ofZ, SFits}
 use borrow.Author.Needs.{needs}
 use Rattle.int64.proofs.Laws.{same-bits}
-use Rattle.passes.proofs.Arrays.{differ, agree, UpTo, none-yet, one-more, all-alike}
+use Rattle.walk.proofs.Arrays.{UpTo, none-yet, one-more, all-alike}
+use Rattle.passes.proofs.Arrays.{differ, agree}
 use Rattle.passes.proofs.is_same.Statement.{statement}
 use Rattle.passes.proofs.is_same.Tie as tie
 

@@ -1,7 +1,7 @@
 -- By the kind of the statement. Assumes nothing.
 use mathlib.Core.Path.{refl, sym, _∙_}
 use Rattle.tape.specs.Kinds.{closeScope, setPlace, word}
-use Rattle.passes.proofs.Records.{length-instruction, length-said, length-declares, length-one}
+use Rattle.walk.proofs.Records.{length-instruction, length-said, length-declares, length-one}
 use borrow.Author.Needs.{needs}
 use Rattle.passes.proofs.length_in.Statement.{statement}
 use Rattle.passes.proofs.length_in.Tie as tie

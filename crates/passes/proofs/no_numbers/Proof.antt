@@ -1,6 +1,6 @@
 -- Two arrays of the same, all through. Assumes nothing.
 use mathlib.Core.Path.{refl}
-use Rattle.passes.specs.Settle.{numbersBy}
+use Rattle.walk.specs.Numbers.{numbersBy}
 use Rattle.passes.proofs.no_numbers.Statement.{statement}
 use Rattle.passes.proofs.no_numbers.Tie as tie
 

@@ -1,7 +1,7 @@
 -- The arrays are lent with no number in them, and come back. Assumes nothing.
 use mathlib.Core.Path.{refl}
-use Rattle.passes.specs.Settle.{numbersBy}
-use Rattle.passes.proofs.Columns.{both}
+use Rattle.walk.specs.Numbers.{numbersBy}
+use Rattle.walk.proofs.Columns.{both}
 use borrow.Author.Needs.{needs}
 use Rattle.passes.proofs.pass.Statement.{statement}
 use Rattle.passes.proofs.pass.Tie as tie

@@ -4,11 +4,11 @@ use mathlib.Core.Path.{_≡_, refl, sym, ap, _∙_}
 use Prim.Native.Nat.{_-_, _<_, _^_}
 use native.Mathlib.Omega.{arith}
 use lib.ListN.{length}
-use Rattle.evaluator.proofs.Meanings.{ends}
 use Rattle.form.proofs.Statements.{not-empty}
-use Rattle.passes.specs.Passes.{numberOf}
-use Rattle.passes.specs.Settle.{numbersIn}
-use Rattle.passes.proofs.Columns.{known-length, number-length}
+use Rattle.evaluator.proofs.Meanings.{ends}
+use Rattle.walk.specs.Values.{numberOf}
+use Rattle.walk.specs.Numbers.{numbersIn}
+use Rattle.walk.proofs.Columns.{known-length, number-length}
 use Rattle.passes.proofs.Passing.{Going, going-start, going-past, going-last, going-on, room-for, low-place}
 use borrow.Author.Needs.{needs}
 use Rattle.passes.proofs.pass_into.Statement.{statement}

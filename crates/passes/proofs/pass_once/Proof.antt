@@ -1,8 +1,8 @@
 -- The arguments first, then the pass. Assumes nothing.
 use mathlib.Core.Path.{ap, _∙_}
+use Rattle.refusals.specs.AnswerAt.{Fine}
 use Rattle.refusals.proofs.Pick.{granted, passed, stopped}
 use Rattle.passes.specs.Settle.{left, passOnce}
-use Rattle.refusals.specs.AnswerAt.{Fine}
 use Rattle.passes.proofs.pass_once.Statement.{statement}
 use Rattle.passes.proofs.pass_once.Tie as tie
 

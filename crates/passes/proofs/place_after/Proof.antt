@@ -2,7 +2,7 @@
 use native.Mathlib.Omega.{arith}
 use Rattle.symbols.specs.Says.{saysData}
 use Rattle.form.specs.Statements.{whatOf}
-use Rattle.passes.proofs.Records.{place-set, place-other, few-bytes}
+use Rattle.walk.proofs.Records.{place-set, place-other, few-bytes}
 use borrow.Author.Needs.{needs}
 use Rattle.passes.proofs.place_after.Statement.{statement}
 use Rattle.passes.proofs.place_after.Tie as tie

@@ -4,9 +4,9 @@ use mathlib.Core.Path.{_≡_, _∙_}
 use Prim.Native.Nat.{_+_, _-_}
 use native.Mathlib.Omega.{arith}
 use Rattle.form.specs.Statements.{statements}
-use Rattle.passes.specs.Walk.{origin}
+use Rattle.walk.specs.Walk.{origin}
+use Rattle.walk.specs.Numbers.{numbersBy, readsNoted}
 use Rattle.passes.specs.Passes.{limit, passes}
-use Rattle.passes.specs.Settle.{numbersBy, readsNoted}
 use Rattle.passes.proofs.Counting.{allowed}
 use Rattle.passes.proofs.Repeating.{Tried, tried-start, tried-pass, tried-lengths, tried-settled, tried-on, tried-all}
 use Rattle.passes.proofs.repeat.Statement.{statement}

@@ -7,7 +7,7 @@ use mir.Facts.{toZ-pos}
 use denote.Ref.{now}
 use Rattle.symbols.specs.Says.{saysData}
 use Rattle.evaluator.specs.Says.{saysValue}
-use Rattle.passes.specs.Settle.{numbersIn}
+use Rattle.walk.specs.Numbers.{numbersIn}
 use Rattle.tries.specs.Steps.{saysTried}
 use Rattle.tries.proofs.Advancing.{Handed, over-inner, over-refused, over-short, over-put}
 use borrow.Author.Needs.{needs}

@@ -4,7 +4,7 @@ use Prim.Native.Nat.{_-_}
 use native.Mathlib.Omega.{arith}
 use lib.ListN.{length}
 use borrow.Author.Needs.{needs}
-use Rattle.passes.specs.Settle.{numbersIn}
+use Rattle.walk.specs.Numbers.{numbersIn}
 use Rattle.tries.proofs.Walking.{Going, going-start, going-past, going-last, inside, some-bytes, going-refused, going-on}
 use Rattle.tries.proofs.draw_all.Statement.{statement}
 use Rattle.tries.proofs.draw_all.Tie as tie

@@ -1,7 +1,7 @@
 -- By the two arrays. Assumes nothing.
 use mathlib.Core.Path.{ap, _∙_}
 use native.Mathlib.Numerals.{add-one}
-use Rattle.passes.specs.Settle.{numbersIn}
+use Rattle.walk.specs.Numbers.{numbersIn}
 use Rattle.tries.proofs.Parts.{own-beyond, own-known, own-none}
 use borrow.Author.Needs.{needs}
 use Rattle.tries.proofs.own_number.Statement.{statement}

@@ -1,8 +1,8 @@
 -- By whether an expression follows. Assumes nothing.
-use Rattle.passes.proofs.Values.{value-none, value-read}
+use Rattle.walk.proofs.Values.{value-none, value-read}
 use borrow.Author.Needs.{needs}
-use Rattle.passes.proofs.value_of.Statement.{statement}
-use Rattle.passes.proofs.value_of.Tie as tie
+use Rattle.walk.proofs.value_of.Statement.{statement}
+use Rattle.walk.proofs.value_of.Tie as tie
 
 is-followed-requires : tie.Need-is-followed-requires
 is-followed-requires c κs = search needs

@@ -1,10 +1,10 @@
 -- By what the expression is, and whether it is a place. Assumes nothing.
 use mir.Syntax.{w64}
 use mir.Val.{SFits}
-use Rattle.passes.proofs.Values.{moved-fits, moved-below, moved-beyond, moved-there}
+use Rattle.walk.proofs.Values.{moved-fits, moved-below, moved-beyond, moved-there}
 use borrow.Author.Needs.{needs}
-use Rattle.passes.proofs.moved_to.Statement.{statement}
-use Rattle.passes.proofs.moved_to.Tie as tie
+use Rattle.walk.proofs.moved_to.Statement.{statement}
+use Rattle.walk.proofs.moved_to.Tie as tie
 
 enum-told : tie.Need-enum-told
 enum-told c = search needs

@@ -11,7 +11,7 @@ use Rattle.opcodes.specs.declared.Form.{Form}
 use Rattle.opcodes.specs.Manual.{formsOf}
 use Rattle.opcodes.specs.Encode.{lengthOf, takes}
 use Rattle.form.specs.Statements.{What, Instruction, Open, Close, Label, Constant, SetPlace, Byte, Word, Screen}
-use Rattle.passes.specs.declared.Walk.{Walk}
+use Rattle.walk.specs.declared.Walk.{Walk}
 
 -- ---- where a walk is
 

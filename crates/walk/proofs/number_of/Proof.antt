@@ -1,10 +1,10 @@
 -- A number stays; what is unresolved or refused counts as unresolved. Assumes nothing.
 use mir.Syntax.{w64}
 use mir.Val.{SFits}
-use Rattle.passes.proofs.Values.{number-kept}
+use Rattle.walk.proofs.Values.{number-kept}
 use borrow.Author.Needs.{needs}
-use Rattle.passes.proofs.number_of.Statement.{statement}
-use Rattle.passes.proofs.number_of.Tie as tie
+use Rattle.walk.proofs.number_of.Statement.{statement}
+use Rattle.walk.proofs.number_of.Tie as tie
 
 enum-known-value : tie.Need-enum-known-value
 enum-known-value c = search needs

@@ -30,8 +30,8 @@ use Rattle.evaluator.proofs.Along.{expression-agrees}
 use Rattle.names.specs.Scopes.{Scopes, outermost, scopeOf, scopesAfter, scopesBehind, before, scopeAt}
 use Rattle.names.specs.Names.{namesOf}
 use Rattle.names.proofs.Kept.{declared-sound, declared-count}
-use Rattle.passes.specs.Settle.{reached, readsNoted}
-use Rattle.builder.specs.Reads.{reaches, numberIn, readsOn}
+use Rattle.walk.specs.Numbers.{reached, readsNoted}
+use Rattle.reads.specs.Reads.{reaches, numberIn, readsOn}
 
 -- ---- a scope is one of the nodes declared so far
 

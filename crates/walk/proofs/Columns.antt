@@ -13,9 +13,9 @@ use borrow.Author.Tests.{lt-ltb, le-ltb}
 use Rattle.refusals.specs.Answer.{pick}
 use Rattle.symbols.specs.Edges.{maxNodes}
 use Rattle.symbols.specs.Symbols.{numberAt, isKnown, numberOr0}
-use Rattle.passes.specs.declared.Numbers.{Numbers}
-use Rattle.passes.specs.Passes.{Values, numbered}
-use Rattle.passes.specs.Settle.{numbersIn, filled, numbersBy}
+use Rattle.walk.specs.declared.Numbers.{Numbers}
+use Rattle.walk.specs.Values.{Values, numbered}
+use Rattle.walk.specs.Numbers.{numbersIn, filled, numbersBy}
 
 -- ---- a list that is filled up
 

@@ -1,9 +1,9 @@
 -- Kind by kind. Assumes nothing.
 use borrow.Author.Tests.{eq-eqb, ne-eqb}
 use Rattle.tape.specs.Kinds.{label}
-use Rattle.builder.specs.Steps.{isNumbered}
-use Rattle.builder.proofs.is_numbered.Statement.{statement}
-use Rattle.builder.proofs.is_numbered.Tie as tie
+use Rattle.form.specs.Form.{isNumbered}
+use Rattle.form.proofs.is_numbered.Statement.{statement}
+use Rattle.form.proofs.is_numbered.Tie as tie
 
 returns : tie.Need-returns
 unfolding isNumbered

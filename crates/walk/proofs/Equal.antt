@@ -1,20 +1,14 @@
--- The tests of equality test it; and the least number that passes a test. Assumes nothing.
+-- The tests of equality test it. Assumes nothing.
 use mathlib.Core.Bool.{Bool, true, false, _&&_}
 use mathlib.Core.List.{List, [], _∷_}
 use mathlib.Core.Option.{Option, none, some}
 use mathlib.Core.Path.{_≡_, refl, sym, ap}
-use Prim.Native.Nat.{ℕ, zero, suc, _+_, _≤_, _<_}
-use native.Mathlib.Decide.{decLt}
-use native.Mathlib.Omega.{arith}
 use lib.IntN.{ℤ, pos, negsuc}
 use borrow.Author.Tests.{eqb-true}
-use Rattle.refusals.specs.Answer.{pick}
 use Rattle.refusals.proofs.Never.{never}
 use Rattle.int64.specs.Num.{eqZ}
 use Rattle.int64.proofs.Laws.{eqZ-yes}
-use Rattle.passes.specs.Passes.{eqValue, same, leastFrom}
-
--- ---- equality
+use Rattle.walk.specs.Values.{eqValue, same}
 
 eqZ-true : (a b : ℤ) → eqZ a b ≡ true → a ≡ b
 eqZ-true (pos a) (pos b) e = ap pos (eqb-true a b e)
@@ -50,26 +44,3 @@ module _ {A : Type 0} (eq : A → A → Bool) where
   pub same-same : ((a : A) → eq a a ≡ true) → (l : List A) → same eq l l ≡ true
   same-same h [] = refl
   same-same h (a ∷ l) = rw (h a, same-same h l)
-
--- ---- the least of `more` numbers, from n on
-
-module _ (test : ℕ → Bool) where
-  -- what is found is the least that passes
-  abbrev pub Found : ℕ → ℕ → Option ℕ → Type 0
-  Found more n (some m) = (n ≤ m) × (m < n + more) × (test m ≡ true) × ((k : ℕ) → n ≤ k → k < m → test k ≡ false)
-  Found more n none = (k : ℕ) → n ≤ k → k < n + more → test k ≡ false
-
-  -- the first of them does not pass
-  wider : (more n : ℕ) (r : Option ℕ) → test n ≡ false → Found more (suc n) r → Found (suc more) n r
-  wider more n (some m) no′ f =
-      (omega arith, omega arith, f .2, λ k a b. elim (decLt n k) [ yes h ↦ f .3 k h b | no h ↦ let e : n ≡ k = omega arith in rw e at no′ ])
-  wider more n none no′ f = λ k a b. elim (decLt n k) [ yes h ↦ f k h (omega arith) | no h ↦ let e : n ≡ k = omega arith in rw e at no′ ]
-
-  pub least-found : (more n : ℕ) → Found more n (leastFrom test more n)
-  least-found zero n = λ k a b. absurd (omega arith)
-  least-found (suc more) n = go (test n) refl (least-found more (suc n))
-    where
-      go : (t : Bool) → test n ≡ t → Found more (suc n) (leastFrom test more (suc n))
-          → Found (suc more) n (pick t (some n) (leastFrom test more (suc n)))
-      go true e f = (omega arith, omega arith, e, λ k a b. absurd (omega arith))
-      go false e f = wider more n (leastFrom test more (suc n)) e f

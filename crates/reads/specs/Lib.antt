@@ -1,0 +1,2 @@
+-- The definitions that the contracts of the crates above cite.
+pub mod Reads
