@@ -1,0 +1,190 @@
+-- Numbers that stand in arrays give the same check, and so do the notes of a tape's names; and what the tries answer, judged.
+-- Assumes nothing.
+use mathlib.Core.Bool.{Bool, true, _&&_, and-eq-true-iff}
+use mathlib.Core.List.{List, [], _∷_}
+use mathlib.Core.Option.{Option}
+use mathlib.Core.Path.{_≡_, refl, sym, ap, _∙_}
+use Prim.Native.Nat.{ℕ, _≤_, _<_}
+use native.Mathlib.Omega.{arith}
+use lib.Dec.{eqb, leb}
+use lib.IntN.{ℤ}
+use lib.ListN.{length, drop, length-append}
+use borrow.Author.Tests.{eq-eqb, ne-eqb, leb-true}
+use Rattle.refusals.specs.Answer.{pick}
+use Rattle.refusals.specs.AnswerAt.{AnswerAt, Fine, Fault, mapped, andThen}
+use Rattle.refusals.specs.Table.{numberDiffers, bytesDiffer}
+use Rattle.refusals.proofs.Never.{never}
+use Rattle.segment.specs.Segment.{size}
+use Rattle.symbols.specs.declared.SymbolTable.{SymbolTable}
+use Rattle.form.specs.Form.{maxTape}
+use Rattle.form.specs.Statements.{What, Instruction, Open, Close, Label, Constant, SetPlace, Byte, Word, Screen, Statement, statements}
+use Rattle.evaluator.specs.Expression.{Value}
+use Rattle.names.specs.Names.{namesOf, declareOf, notesAfter}
+use Rattle.names.proofs.Kept.{notes-are}
+use Rattle.walk.specs.Walk.{Origin, origin, namesIn}
+use Rattle.walk.specs.Values.{numbered, declarations, same}
+use Rattle.walk.specs.Numbers.{numbersIn, numbersBy, readsNoted}
+use Rattle.walk.proofs.Agrees.{Alike}
+use Rattle.walk.proofs.Columns.{by-node}
+use Rattle.tries.specs.Tries.{Trying, start, tries}
+use Rattle.tries.specs.Write.{triedAll, writeOf, rangeOf, imageOr}
+use Rattle.tries.proofs.Agrees.{tries-alike, write-allowed}
+use Rattle.tries.proofs.Sound.{tries-sound}
+use Rattle.reads.specs.Reads.{readsOn}
+use Rattle.reads.proofs.Names.{declare-is, fault-is}
+use Rattle.reads.proofs.Reading.{all-alike}
+use Rattle.checker.specs.Check.{counts, count, valued, valuesOf, checker, part, isWritten, judged, checkedBy, checked}
+use Rattle.checker.specs.Call.{isAllowed}
+
+-- ---- arguments
+
+pub record Allowed (t i s b : ℕ) : Type 0 where
+  pub tape : t ≤ maxTape
+  pub initial : i ≤ size
+  pub start : s ≤ size
+  pub bytes : b ≤ size
+
+pub allowed : (t i s b : ℕ) → isAllowed t i s b ≡ true → Allowed t i s b
+unfolding isAllowed
+allowed t i s b e =
+    let x = and-eq-true-iff (leb t maxTape && leb i size && leb s size) (leb b size) .0 e in
+    let y = and-eq-true-iff (leb t maxTape && leb i size) (leb s size) .0 (x .0) in
+    let z = and-eq-true-iff (leb t maxTape) (leb i size) .0 (y .0) in
+    record {
+      tape = leb-true t maxTape (z .0);
+      initial = leb-true i size (z .1);
+      start = leb-true s size (y .1);
+      bytes = leb-true b size (x .1);
+    }
+
+-- ---- each name has one value
+
+valued-length : (x : What) (l : List ℤ) → length (valued x l) ≡ namesIn x
+valued-length (Label id) l = refl
+valued-length (Constant id) l = refl
+valued-length (Open id) l = refl
+valued-length Close l = refl
+valued-length (Instruction mnemonic mode suffix) l = refl
+valued-length SetPlace l = refl
+valued-length Byte l = refl
+valued-length Word l = refl
+valued-length (Screen petscii) l = refl
+
+pub values-length : (xs : List Statement) (l : List ℤ) → length (valuesOf xs l) ≡ declarations xs
+values-length [] l = refl
+values-length (x ∷ xs) l =
+    let rest = drop (counts (x .says)) l in
+    omega (arith, length-append (valued (x .says) l) (valuesOf xs rest), valued-length (x .says) l, values-length xs rest)
+
+-- ---- the check of a tape whose names have been resolved
+
+-- the range of an answer
+abbrev rangeIn : AnswerAt (ℕ × ℕ) → ℕ × ℕ
+rangeIn (Fine r) = r
+rangeIn (Fault n at) = (0, 0)
+
+-- from: the start that is checked
+module _ (tape nodes : List ℕ) (initial : ℕ) (numbers : List ℤ) (from : ℕ) (bytes : List ℕ) where
+  abbrev xs : List Statement
+  xs = statements tape
+
+  abbrev verdict : AnswerAt (Unit {0})
+  verdict = checkedBy (readsNoted tape nodes) xs (origin initial) numbers from bytes
+
+  abbrev all-tried : AnswerAt Trying
+  all-tried = tries (readsNoted tape nodes) checker (numbered (valuesOf xs numbers)) (start (origin initial)) xs
+
+  -- n: how many numbers a list has for the tape
+  module _ {n : ℕ} (n-is : n ≡ count xs) where
+    pub numbers-differ : (n ≡ length numbers → ⊥) → Fault numberDiffers 0 ≡ verdict
+    unfolding checkedBy
+    numbers-differ h = rw (ne-eqb (length numbers) (count xs) (λ e. h (n-is ∙ sym e)))
+
+    numbers-fit : n ≡ length numbers → andThen all-tried (judged from bytes) ≡ verdict
+    unfolding checkedBy
+    numbers-fit e = rw (eq-eqb (length numbers) (count xs) (sym e ∙ n-is))
+
+  -- the numbers stand in arrays, and a and image′ are what the tries with them give
+  module _ (asked : (length tape ≤ maxTape) × (initial ≤ size) × (declarations xs < 1024)) {n : ℕ} {known : List Bool} {number : List ℤ}
+      (spread : (n ≡ count xs) × (known ≡ numbersBy (valuesOf xs numbers) .known) × (number ≡ numbersBy (valuesOf xs numbers) .number))
+      (image : List ℕ) (whole : length image ≡ size) {a : AnswerAt (ℕ × ℕ)} {image′ : List ℕ}
+      (told : (a ≡ mapped rangeOf (writeOf tape nodes (record { known = known; number = number }) initial checker (length image)))
+      × (image′ ≡ imageOr image (writeOf tape nodes (record { known = known; number = number }) initial checker (length image)))) where
+    by-arrays : writeOf tape nodes (record { known = known; number = number }) initial checker (length image) ≡ all-tried
+    unfolding triedAll
+    by-arrays =
+        let short : length (valuesOf xs numbers) < 1024 = omega (arith, asked .2, values-length xs numbers) in
+        write-allowed tape nodes _ initial checker (asked .0) (asked .1) whole
+        ∙ ap (λ (f : ℕ → Option ℤ). tries (readsNoted tape nodes) checker f (start (origin initial)) xs)
+        ((λ i. numbersIn (spread .1 i) (spread .2 i)) ∙ by-node (valuesOf xs numbers) short)
+
+    answer : a ≡ mapped rangeOf all-tried
+    answer = told .0 ∙ ap (mapped rangeOf) by-arrays
+
+    image-is : image′ ≡ imageOr image all-tried
+    image-is = told .1 ∙ ap (imageOr image) by-arrays
+
+    pub tries-refused : n ≡ length numbers → {m at : ℕ} → a ≡ Fault m at → Fault m at ≡ verdict
+    tries-refused fits {m} {at} is = go all-tried answer ∙ numbers-fit (spread .0) fits
+      where
+        go : (b : AnswerAt Trying) → a ≡ mapped rangeOf b → Fault m at ≡ andThen b (judged from bytes)
+        go (Fine t) e = never (let f = sym is ∙ e in cc)
+        go (Fault k i) e = fault-is (sym is ∙ e)
+
+    module _ {first end : ℕ} (is : a ≡ Fine (first, end)) where
+      -- the tries were fine, and the range is what they wrote
+      written-by : (t : Trying) × (all-tried ≡ Fine t) × ((first, end) ≡ rangeOf t) × (image′ ≡ t .page .image)
+      written-by = go all-tried refl answer image-is
+        where
+          go : (b : AnswerAt Trying) → all-tried ≡ b → a ≡ mapped rangeOf b → image′ ≡ imageOr image b
+              → (t : Trying) × (all-tried ≡ Fine t) × ((first, end) ≡ rangeOf t) × (image′ ≡ t .page .image)
+          go (Fine t) fine e i = (t, fine, ap rangeIn (sym is ∙ e), i)
+          go (Fault k j) fine e i = never (let f = sym is ∙ e in cc)
+
+      pub range-inside : (first ≤ end) × (end ≤ length image′)
+      range-inside =
+          let (t, fine, range, same-image) = written-by in
+          let inside = tries-sound (readsNoted tape nodes) checker (numbered (valuesOf xs numbers)) (origin initial) xs (asked .1) fine in
+          let first-is : first ≡ t .page .pen .start = ap (λ (r : ℕ × ℕ). r .0) range in
+          let end-is : end ≡ t .page .pen .end = ap (λ (r : ℕ × ℕ). r .1) range in
+          (omega (arith, inside .forward, first-is, end-is), omega (arith, inside .end, inside .image, ap length same-image, end-is))
+
+      pub range-judged : n ≡ length numbers
+          → pick (eqb from first && same eqb bytes (part first end image′)) (Fine tt) (Fault bytesDiffer 0) ≡ verdict
+      unfolding judged isWritten
+      range-judged fits =
+          let (t, fine, range, same-image) = written-by in
+          let covered : part first end image′ ≡ part (t .page .pen .start) (t .page .pen .end) (t .page .image) =
+          λ j. part (range j .0) (range j .1) (same-image j) in
+          (λ j. pick (eqb from (range j .0) && same eqb bytes (covered j)) (Fine tt) (Fault bytesDiffer 0))
+          ∙ sym (ap (λ (a : AnswerAt Trying). andThen a (judged from bytes)) fine)
+          ∙ numbers-fit (spread .0) fits
+
+-- ---- form and names before them
+
+abbrev Reads : Type 0
+Reads = (ℕ → Option ℤ) → ℤ → ℕ → Value
+
+checked-alike : (r s : Reads) (xs : List Statement) (o : Origin) (numbers : List ℤ) (from : ℕ) (bytes : List ℕ) → Alike r s xs
+    → checkedBy r xs o numbers from bytes ≡ checkedBy s xs o numbers from bytes
+unfolding checkedBy
+checked-alike r s xs o numbers from bytes h =
+    ap (λ (a : AnswerAt Trying). pick (eqb (length numbers) (count xs)) (andThen a (judged from bytes)) (Fault numberDiffers 0))
+    (tries-alike r s checker (numbered (valuesOf xs numbers)) (start o) xs h)
+
+module _ (tape : List ℕ) (o : Origin) (numbers : List ℤ) (from : ℕ) (bytes : List ℕ) where
+  pub checked-fault : {m at : ℕ} → namesOf tape ≡ Fault m at → Fault m at ≡ checked tape o numbers from bytes
+  unfolding checked
+  checked-fault e =
+      sym (ap (λ (a : AnswerAt SymbolTable). andThen a (λ t. checkedBy (readsOn tape t) (statements tape) o numbers from bytes)) e)
+
+  -- by what is noted at the name records
+  pub checked-noted : {t : SymbolTable} → namesOf tape ≡ Fine t → (nodes : List ℕ) → length nodes ≡ maxTape → {nodes′ : List ℕ}
+      → nodes′ ≡ notesAfter tape nodes (declareOf tape (length nodes))
+      → checkedBy (readsNoted tape nodes′) (statements tape) o numbers from bytes ≡ checked tape o numbers from bytes
+  unfolding checked
+  checked-noted {t} fine nodes long {nodes′} is =
+      let resolved = notes-are tape (length nodes) (declare-is tape long ∙ fine) nodes long in
+      ap (λ (l : List ℕ). checkedBy (readsNoted tape l) (statements tape) o numbers from bytes) is
+      ∙ checked-alike _ (readsOn tape t) (statements tape) o numbers from bytes (all-alike tape fine _ resolved)
+      ∙ sym (ap (λ (a : AnswerAt SymbolTable). andThen a (λ t. checkedBy (readsOn tape t) (statements tape) o numbers from bytes)) fine)

@@ -1,0 +1,104 @@
+-- The arguments, the names, and the numbers behind them. Assumes nothing.
+use mathlib.Core.List.{List}
+use mathlib.Core.Path.{_≡_, sym, _∙_}
+use Prim.Native.Nat.{ℕ}
+use lib.ListN.{length, replicate, length-replicate}
+use Rattle.refusals.proofs.Pick.{granted, stopped, at-true}
+use Rattle.walk.specs.Walk.{origin}
+use Rattle.reads.proofs.Names.{names-refused, names-done, declare-is, few-names}
+use Rattle.checker.specs.Call.{checkOf}
+use Rattle.checker.proofs.Checks.{allowed, checked-fault, checked-noted}
+use borrow.Author.Needs.{needs}
+use Rattle.checker.proofs.check.Statement.{statement}
+use Rattle.checker.proofs.check.Tie as tie
+
+-- the notes before the names
+abbrev none-noted : List ℕ
+none-noted = replicate 65536 0
+
+places : length none-noted ≡ 65536
+places = length-replicate {A = ℕ} 65536 0
+
+is-allowed-requires : tie.Need-is-allowed-requires
+is-allowed-requires c κs = search needs
+
+refused-requires : tie.Need-refused-requires
+refused-requires c κs = search needs
+
+returns : tie.Need-returns
+unfolding checkOf
+returns c =
+    let tested = c .before in
+    c .refused .ensures ∙ stopped _ _ (tested .before .is-allowed .ensures) (tested .if1 .taken)
+
+slice-aggregate-declare : tie.Need-slice-aggregate-declare
+slice-aggregate-declare c = search needs
+
+declare-requires : tie.Need-declare-requires
+declare-requires c κs = search needs
+
+enum-known-answer : tie.Need-enum-known-answer
+enum-known-answer c = search needs
+
+refused-requires-2 : tie.Need-refused-requires-2
+refused-requires-2 c κs = search needs
+
+enum-told : tie.Need-enum-told
+enum-told c = search needs
+
+slice-aggregate-check-numbers : tie.Need-slice-aggregate-check-numbers
+slice-aggregate-check-numbers c = search needs
+
+check-numbers-requires : tie.Need-check-numbers-requires
+check-numbers-requires c κs =
+    let told = c .before in
+    let declared = told .before .before .before in
+    let tested = declared .before .before in
+    let args = tested .before .before .before .before .args in
+    let fine = allowed _ _ _ _ (granted (tested .before .is-allowed .ensures) (tested .if1 .left)) in
+    let found = names-done (told .enum-told .given .1) _ (declared .declare .ensures .0) in
+    (fine .tape, fine .initial, few-names (args .tape .now) (sym (declare-is (args .tape .now) places) ∙ found .1))
+
+returns-2 : tie.Need-returns-2
+unfolding checkOf
+returns-2 c =
+    let told = c .before .before in
+    let declared = told .before .before .before in
+    let tested = declared .before .before in
+    let args = tested .before .before .before .before .args in
+    let refuses = names-refused (told .answer .given .1) _ (declared .declare .ensures .0) in
+    c .refused2 .ensures
+    ∙ checked-fault (args .tape .now) (origin (args .initial)) (args .numbers .now) (args .start) (args .bytes .now)
+    (sym (declare-is (args .tape .now) places) ∙ refuses)
+    ∙ at-true _ _ (granted (tested .before .is-allowed .ensures) (tested .if1 .left))
+
+returns-3 : tie.Need-returns-3
+unfolding checkOf
+returns-3 c =
+    let told = c .before .before in
+    let declared = told .before .before .before in
+    let tested = declared .before .before in
+    let args = tested .before .before .before .before .args in
+    let found = names-done (told .enum-told .given .1) _ (declared .declare .ensures .0) in
+    c .check-numbers .ensures
+    ∙ checked-noted (args .tape .now) (origin (args .initial)) (args .numbers .now) (args .start) (args .bytes .now)
+    (sym (declare-is (args .tape .now) places) ∙ found .1) none-noted places
+    (declared .declare .ensures .1)
+    ∙ at-true _ _ (granted (tested .before .is-allowed .ensures) (tested .if1 .left))
+
+pub check-spec : {M : Type 1} → statement M
+check-spec =
+    tie.close
+    (tie.spec
+    is-allowed-requires
+    refused-requires
+    returns
+    slice-aggregate-declare
+    declare-requires
+    enum-known-answer
+    refused-requires-2
+    enum-told
+    slice-aggregate-check-numbers
+    check-numbers-requires
+    returns-2
+    returns-3)

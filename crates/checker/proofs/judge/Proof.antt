@@ -1,0 +1,63 @@
+-- The start, then the bytes. Assumes nothing.
+use mathlib.Core.Path.{sym, _∙_}
+use Rattle.checker.specs.Check.{part}
+use Rattle.checker.proofs.Bytes.{start-differs, bytes-same, bytes-differ}
+use borrow.Author.Needs.{needs}
+use Rattle.checker.proofs.judge.Statement.{statement}
+use Rattle.checker.proofs.judge.Tie as tie
+
+refused-requires : tie.Need-refused-requires
+refused-requires c κs = search needs
+
+returns : tie.Need-returns
+returns c =
+    let tested = c .before in
+    let args = tested .before .before .before .args in
+    let written = part (args .first) (args .end) (args .image .now) in
+    c .refused .ensures ∙ start-differs (args .start) (args .first) (args .bytes .now) written (tested .if1 .taken)
+
+sub-same : tie.Need-sub-same
+sub-same c = search needs
+
+part-same-start : tie.Need-part-same-start
+part-same-start c = search needs
+
+part-same-end : tie.Need-part-same-end
+part-same-end c = search needs
+
+same-requires : tie.Need-same-requires
+same-requires c κs = search needs
+
+refused-requires-2 : tie.Need-refused-requires-2
+refused-requires-2 c κs = search needs
+
+returns-2 : tie.Need-returns-2
+returns-2 c =
+    let tested = c .before .before .before in
+    let args = tested .before .before .before .args in
+    let written = part (args .first) (args .end) (args .image .now) in
+    bytes-same (args .start) (args .first) (args .bytes .now) written (tested .if1 .left) (sym (c .before .same .ensures) ∙ c .if2 .taken)
+
+returns-3 : tie.Need-returns-3
+returns-3 c =
+    let differs = c .before in
+    let tested = differs .before .before .before in
+    let args = tested .before .before .before .args in
+    let written = part (args .first) (args .end) (args .image .now) in
+    c .refused2 .ensures
+    ∙ bytes-differ (args .start) (args .first) (args .bytes .now) written (tested .if1 .left)
+    (sym (differs .before .same .ensures) ∙ differs .if2 .left)
+
+pub judge-spec : {M : Type 1} → statement M
+judge-spec =
+    tie.close
+    (tie.spec
+    refused-requires
+    returns
+    sub-same
+    part-same-start
+    part-same-end
+    same-requires
+    refused-requires-2
+    returns-2
+    returns-3)

@@ -1,0 +1,5 @@
+-- The definitions that the contracts of this crate cite.
+pub mod Check
+pub mod Refusals
+pub mod Call
+pub mod Steps

@@ -1,0 +1,202 @@
+// The checker: whether numbers, a start and bytes, from anyone, fit a tape. Form and names as in a build; then each statement is tried
+// once, with the given numbers, and what is written is compared. There are no passes, and no memory of the caller is written.
+use form::LONGEST;
+use refusals::ARGUMENT;
+use refusals::BYTES_DIFFER;
+use refusals::NUMBER_DIFFERS;
+use refusals::OutcomeAt;
+use symbols::NODES;
+use tries::Compares;
+use tries::Written;
+use walk::Numbers;
+ghost use mathlib.Core.Bool.{true, false, _&&_};
+ghost use mathlib.Core.Path.{_≡_};
+ghost use Prim.Native.Nat.{_+_, _≤_, _<_};
+ghost use lib.Dec.{eqb};
+ghost use lib.IntN.{pos};
+ghost use lib.ListN.{length, getD, replicate};
+ghost use Rattle.refusals.specs.Answer.{pick};
+ghost use Rattle.refusals.specs.AnswerAt.{Fine, Fault};
+ghost use Rattle.refusals.specs.Table.{bytesDiffer};
+ghost use Rattle.segment.specs.Segment.{size};
+ghost use Rattle.symbols.specs.Edges.{maxNodes};
+ghost use Rattle.form.specs.Form.{maxTape, isNumbered};
+ghost use Rattle.form.specs.Statements.{statements};
+ghost use Rattle.walk.specs.Walk.{origin};
+ghost use Rattle.walk.specs.Values.{declarations, same};
+ghost use Rattle.walk.specs.Numbers.{numbersBy, readsNoted};
+ghost use Rattle.checker.specs.Check.{count, valuesOf, part, checkedBy};
+ghost use Rattle.checker.specs.Call.{isAllowed, checkOf, saysChecked};
+ghost use Rattle.checker.specs.Steps.{putIn};
+
+// How many bytes an image has; also the greatest place.
+const SIZE: usize = 65536;
+
+// The verdict.
+pub enum Checked {
+    Accepted,
+    Refused { number: u8, at: usize },
+}
+
+// Whether numbers, one for each label and constant in tape order, a start and the covered bytes fit a tape from an initial place.
+pub fn check<'a>(
+    tape: &'a [u8],
+    initial: usize,
+    numbers: &'a [i64],
+    start: usize,
+    bytes: &'a [u8],
+) -> Checked
+    ensures { λ r. ⌜ saysChecked r ≡ checkOf (now (tape .entry)) initial (now (numbers .entry)) start (now (bytes .entry)) ⌝ }
+{
+    if !is_allowed(tape.len(), initial, start, bytes.len()) {
+        return refused(ARGUMENT, 0);
+    }
+    let mut nodes = [0u16; LONGEST];
+    let declared = names::declare(tape, &mut nodes);
+    let answer = declared.answer;
+    match answer {
+        OutcomeAt::Refused { number, at } => refused(number, at),
+        OutcomeAt::Done => check_numbers(tape, &nodes, initial, numbers, start, bytes),
+    }
+}
+
+// Whether the lengths and the two places are in their ranges.
+fn is_allowed(tape: usize, initial: usize, start: usize, bytes: usize) -> bool
+    ensures { λ r. ⌜ r ≡ isAllowed tape initial start bytes ⌝ }
+{
+    if LONGEST < tape {
+        return false;
+    }
+    if SIZE < initial {
+        return false;
+    }
+    if SIZE < start {
+        return false;
+    }
+    bytes <= SIZE
+}
+
+// A refusal.
+fn refused(number: u8, at: usize) -> Checked
+    ensures { λ r. ⌜ saysChecked r ≡ Fault number at ⌝ }
+{
+    Checked::Refused { number, at }
+}
+
+// The names being resolved: the length of the list, then the statements with its numbers.
+fn check_numbers<'a>(
+    tape: &'a [u8],
+    nodes: &'a [u16],
+    initial: usize,
+    numbers: &'a [i64],
+    start: usize,
+    bytes: &'a [u8],
+) -> Checked
+    requires { ⌜ (length (now tape) ≤ maxTape) × (initial ≤ size) × (declarations (statements (now tape)) < maxNodes) ⌝ }
+    ensures { λ r. ⌜ saysChecked r
+        ≡ checkedBy (readsNoted (now (tape .entry)) (now (nodes .entry))) (statements (now (tape .entry))) (origin initial)
+        (now (numbers .entry)) start (now (bytes .entry)) ⌝ }
+{
+    let mut known = [false; NODES];
+    let mut number = [0i64; NODES];
+    let count = spread(tape, numbers, &mut known, &mut number);
+    if count != numbers.len() {
+        return refused(NUMBER_DIFFERS, 0);
+    }
+    let compares = Compares {
+        label: NUMBER_DIFFERS,
+        constant: NUMBER_DIFFERS,
+    };
+    let by_node = Numbers { known, number };
+    let mut image = [0u8; SIZE];
+    match tries::write(tape, nodes, by_node, initial, compares, &mut image) {
+        Written::Refused { number: n, at } => refused(n, at),
+        Written::Range { start: first, end } => judge(&image, first, end, start, bytes),
+    }
+}
+
+// Puts each number of a list at the node of its label or constant, and gives how many a list has for this tape.
+fn spread<'a>(tape: &'a [u8], list: &'a [i64], known: &mut [bool], number: &mut [i64]) -> usize
+    requires { ⌜ (length (now tape) ≤ maxTape) × (declarations (statements (now tape)) < maxNodes)
+        × (now known ≡ replicate maxNodes false) × (now number ≡ replicate maxNodes (pos 0)) ⌝ }
+    ensures { λ r. ⌜ (r ≡ count (statements (now (tape .entry))))
+        × (now (known .exit) ≡ numbersBy (valuesOf (statements (now (tape .entry))) (now (list .entry))) .known)
+        × (now (number .exit) ≡ numbersBy (valuesOf (statements (now (tape .entry))) (now (list .entry))) .number) ⌝ }
+{
+    let mut names: usize = 0;
+    let mut count: usize = 0;
+    let mut at: usize = 0;
+    while at < tape.len() {
+        let rec = tape::record(tape, at);
+        if form::is_last(rec) {
+            return count;
+        }
+        let kind = little::u8_at(rec, 0);
+        count = put(kind, list, names, count, known, number);
+        names += form::names_in(kind);
+        at += rec.len();
+    }
+    count
+}
+
+// Puts the next number of a list at the next node, where a record of this kind has one; and gives how many were put then.
+fn put(
+    kind: u8,
+    list: &[i64],
+    names: usize,
+    count: usize,
+    known: &mut [bool],
+    number: &mut [i64],
+) -> usize
+    requires { ⌜ (isNumbered kind ≡ true → (names + 1 < length (now known)) × (names + 1 < length (now number))) × (count < size) ⌝ }
+    ensures { λ r. ⌜ (r ≡ pick (isNumbered kind) (count + 1) count)
+        × (now (known .exit) ≡ putIn (now (known .entry)) names kind true)
+        × (now (number .exit) ≡ putIn (now (number .entry)) names kind (getD (now (list .entry)) count (pos 0))) ⌝ }
+{
+    if form::is_numbered(kind) {
+        known[names + 1] = true;
+        number[names + 1] = number_at(list, count);
+        return count + 1;
+    }
+    count
+}
+
+// The number of that index in a list, or 0 past its end.
+fn number_at(list: &[i64], i: usize) -> i64
+    ensures { λ r. ⌜ r ≡ getD (now (list .entry)) i (pos 0) ⌝ }
+{
+    if i < list.len() { list[i] } else { 0 }
+}
+
+// Start, length and bytes against what is written: the image from `first` to `end`.
+fn judge<'a>(image: &'a [u8], first: usize, end: usize, start: usize, bytes: &'a [u8]) -> Checked
+    requires { ⌜ (first ≤ end) × (end ≤ length (now image)) ⌝ }
+    ensures { λ r. ⌜ saysChecked r
+        ≡ pick (eqb start first && same eqb (now (bytes .entry)) (part first end (now (image .entry)))) (Fine tt) (Fault bytesDiffer 0) ⌝ }
+{
+    if start != first {
+        return refused(BYTES_DIFFER, 0);
+    }
+    if same(bytes, &image[first..end]) {
+        Checked::Accepted
+    } else {
+        refused(BYTES_DIFFER, 0)
+    }
+}
+
+// Whether two runs of bytes are equal.
+fn same<'a>(a: &'a [u8], b: &'a [u8]) -> bool
+    ensures { λ r. ⌜ r ≡ same eqb (now (a .entry)) (now (b .entry)) ⌝ }
+{
+    if a.len() != b.len() {
+        return false;
+    }
+    let mut i: usize = 0;
+    while i < a.len() {
+        if a[i] != b[i] {
+            return false;
+        }
+        i += 1;
+    }
+    true
+}
