@@ -18,6 +18,8 @@ pub const MOVED: u8 = 13;
 pub const TOO_FAR: u8 = 14;
 pub const OUTSIDE: u8 = 15;
 pub const NOT_SETTLED: u8 = 16;
+pub const NUMBER_DIFFERS: u8 = 17;
+pub const BYTES_DIFFER: u8 = 18;
 
 /// The answer line of a refusal.
 pub const REFUSED: &str = "refused";

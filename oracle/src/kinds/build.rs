@@ -16,9 +16,9 @@
 //! An answer is `done`; or `refused N at OFFSET`; or `finished`, start, end and passes, the numbers
 //! behind `:`, and behind another `:` a checksum of the whole image.
 
-mod program;
+pub(super) mod program;
 mod scripts;
-mod walks;
+pub(super) mod walks;
 
 use super::form::{self, Fault, Rows};
 use super::{short_at, Answerer, Kind};
@@ -34,7 +34,7 @@ const WIDTH: usize = 64;
 const PART: usize = 58;
 
 /// How many bytes an image has; also the last place.
-const SIZE: usize = 65_536;
+pub(super) const SIZE: usize = 65_536;
 
 // The divisor of the checksum, a prime, and its factor.
 const DIVISOR: u64 = 4_294_967_291;
@@ -112,6 +112,22 @@ fn build(rows: &Rows, tape: &[u8], initial: usize) -> Result<Built, Fault> {
     }
     form::form(rows, tape)?;
     walks::build(&Program::read(tape)?, initial)
+}
+
+// The tapes that are built, with so many random ones among them, and the initial place of each.
+pub(super) fn tapes(random: usize) -> Vec<(usize, Vec<u8>)> {
+    let mut tapes = vec![];
+    let mut tape = vec![];
+    for question in scripts::some(random).chunks_exact(WIDTH) {
+        match read(question) {
+            More(times, part) => tape.extend(part.repeat(times as usize)),
+            Build(initial, part) => {
+                tape.extend(part);
+                tapes.push((initial as usize, std::mem::take(&mut tape)));
+            }
+        }
+    }
+    tapes
 }
 
 // The line of a build.

@@ -1,8 +1,9 @@
 //! The kinds of question: one for each module of mos that is asked, and for its evaluator a second,
-//! expressions; and decode, branch, form and build, which the port adds.
+//! expressions; and decode, branch, form, build and check, which the port adds.
 
 mod branch;
 mod build;
+mod check;
 mod decode;
 mod evaluator;
 mod expressions;
@@ -46,6 +47,7 @@ pub fn all() -> Vec<Kind> {
         expressions::kind(),
         form::kind(),
         build::kind(),
+        check::kind(),
         text_encoding::kind(),
     ]
 }

@@ -35,11 +35,16 @@ const SEED: u64 = 6502;
 
 // Everything.
 pub fn ask() -> Vec<u8> {
+    some(RANDOM)
+}
+
+// Everything, with so many random tapes.
+pub fn some(random: usize) -> Vec<u8> {
     let mut script = Script::new();
     script.put_cases();
     script.put_full();
     script.put_longest();
-    script.put_random(RANDOM);
+    script.put_random(random);
     script.out
 }
 

@@ -9,7 +9,7 @@ use crate::refusal::{ARITHMETIC, MOVED, NOT_SETTLED, OUTSIDE, TOO_FAR, TOO_SMALL
 use std::ops::Range;
 
 /// How many passes there may be.
-const MOST_PASSES: usize = 16;
+pub const MOST_PASSES: usize = 16;
 
 // An operand that no one-byte form takes.
 const LONG: i64 = 256;
@@ -22,7 +22,7 @@ const BRANCH_LENGTH: i64 = 2;
 const DISTANCES: std::ops::RangeInclusive<i128> = -128..=127;
 
 /// The numbers of a program's labels and constants.
-type Numbers = Vec<Option<i64>>;
+pub type Numbers = Vec<Option<i64>>;
 
 /// A number, or none where something is unresolved; an error is refusal 10.
 type Value = Result<Option<i64>, Overflow>;
@@ -59,7 +59,7 @@ pub fn build(program: &Program, initial: usize) -> Result<Built, Fault> {
 }
 
 // "Pass n walks the tape from the initial place, reads L(n-1) and gives Ln."
-fn pass(program: &Program, before: &Numbers, initial: usize) -> Numbers {
+pub fn pass(program: &Program, before: &Numbers, initial: usize) -> Numbers {
     let mut after = vec![None; program.numbers];
     let mut place = initial as i64;
     for line in &program.lines {
@@ -88,7 +88,7 @@ fn length(row: [u8; 3], operand: Option<i64>) -> i64 {
 }
 
 // Tries each line in tape order. The image, and the range that was written.
-fn write(
+pub fn write(
     program: &Program,
     numbers: &Numbers,
     initial: usize,
@@ -127,10 +127,7 @@ enum Effect {
 impl Program {
     // What a line does, or document 01's number of its refusal.
     fn attempt(&self, numbers: &Numbers, line: &Line, place: i64) -> Result<Effect, u8> {
-        let value_of = |tree| match self.value(numbers, line, place, tree) {
-            Err(Overflow) => Err(ARITHMETIC),
-            Ok(value) => value.ok_or(UNRESOLVED),
-        };
+        let value_of = |tree| self.evaluate(numbers, line, place, tree);
         Ok(Effect::Write(match &line.what {
             What::Label(slot) if numbers[*slot] == Some(place) => vec![],
             What::Label(_) => return Err(MOVED),
@@ -142,6 +139,20 @@ impl Program {
             What::Instruction(row, None) => encode(*row, 0).ok_or(TOO_SMALL)?,
             What::Instruction(row, Some(tree)) => instruction(*row, place, value_of(tree)?)?,
         }))
+    }
+
+    // The number of an expression, or document 01's number of its refusal.
+    pub fn evaluate(
+        &self,
+        numbers: &Numbers,
+        line: &Line,
+        place: i64,
+        tree: &Expression,
+    ) -> Result<i64, u8> {
+        match self.value(numbers, line, place, tree) {
+            Err(Overflow) => Err(ARITHMETIC),
+            Ok(value) => value.ok_or(UNRESOLVED),
+        }
     }
 
     // "Left refusal, right refusal, unresolved, own refusal: in that order."
@@ -176,7 +187,7 @@ fn set_place(z: i64) -> Result<Effect, u8> {
 }
 
 // The bytes of an instruction with an operand: the Rust's, but for the distance of a branch.
-fn instruction(row: [u8; 3], place: i64, operand: i64) -> Result<Vec<u8>, u8> {
+pub fn instruction(row: [u8; 3], place: i64, operand: i64) -> Result<Vec<u8>, u8> {
     if !BRANCHES.contains(&row[0]) {
         return encode(row, operand).ok_or(TOO_SMALL);
     }
@@ -237,7 +248,7 @@ fn joined(operator: u8, y: i64, z: i64) -> Option<i64> {
 }
 
 // The screen byte of a Petscii byte.
-fn screen_byte(byte: u8) -> u8 {
+pub fn screen_byte(byte: u8) -> u8 {
     match byte {
         0x00..=0x1f => byte + 128,
         0x20..=0x3f => byte,
