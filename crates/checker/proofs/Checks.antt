@@ -33,7 +33,7 @@ use Rattle.tries.proofs.Sound.{tries-sound}
 use Rattle.reads.specs.Reads.{readsOn}
 use Rattle.reads.proofs.Names.{declare-is, fault-is}
 use Rattle.reads.proofs.Reading.{all-alike}
-use Rattle.checker.specs.Check.{counts, count, valued, valuesOf, checker, part, isWritten, judged, checkedBy, checked}
+use Rattle.checker.specs.Check.{counts, count, valued, valuesOf, checker, covered, isWritten, judged, checkedBy, checked}
 use Rattle.checker.specs.Call.{isAllowed}
 
 -- ---- arguments
@@ -150,13 +150,13 @@ module _ (tape nodes : List ℕ) (initial : ℕ) (numbers : List ℤ) (from : �
           (omega (arith, inside .forward, first-is, end-is), omega (arith, inside .end, inside .image, ap length same-image, end-is))
 
       pub range-judged : n ≡ length numbers
-          → pick (eqb from first && same eqb bytes (part first end image′)) (Fine tt) (Fault bytesDiffer 0) ≡ verdict
+          → pick (eqb from first && same eqb bytes (covered first end image′)) (Fine tt) (Fault bytesDiffer 0) ≡ verdict
       unfolding judged isWritten
       range-judged fits =
           let (t, fine, range, same-image) = written-by in
-          let covered : part first end image′ ≡ part (t .page .pen .start) (t .page .pen .end) (t .page .image) =
-          λ j. part (range j .0) (range j .1) (same-image j) in
-          (λ j. pick (eqb from (range j .0) && same eqb bytes (covered j)) (Fine tt) (Fault bytesDiffer 0))
+          let written : covered first end image′ ≡ covered (t .page .pen .start) (t .page .pen .end) (t .page .image) =
+          λ j. covered (range j .0) (range j .1) (same-image j) in
+          (λ j. pick (eqb from (range j .0) && same eqb bytes (written j)) (Fine tt) (Fault bytesDiffer 0))
           ∙ sym (ap (λ (a : AnswerAt Trying). andThen a (judged from bytes)) fine)
           ∙ numbers-fit (spread .0) fits
 

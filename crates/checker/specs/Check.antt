@@ -64,13 +64,13 @@ abbrev pub checker : Compares
 checker = record { label = numberDiffers; constant = numberDiffers }
 
 -- the bytes of an image from a start to an end
-abbrev pub part : (start end : ℕ) → List ℕ → List ℕ
-part start end image = take (end - start) (drop start image)
+abbrev pub covered : (start end : ℕ) → List ℕ → List ℕ
+covered start end image = take (end - start) (drop start image)
 
 -- what the tries wrote has this start and these bytes
 unfoldable pub isWritten : (start : ℕ) (bytes : List ℕ) → Trying → Bool
 isWritten start bytes t =
-    let pen = t .page .pen in eqb start (pen .start) && same eqb bytes (part (pen .start) (pen .end) (t .page .image))
+    let pen = t .page .pen in eqb start (pen .start) && same eqb bytes (covered (pen .start) (pen .end) (t .page .image))
 
 -- "then compares start, length and bytes"
 unfoldable pub judged : ℕ → List ℕ → Trying → AnswerAt (Unit {0})

@@ -25,7 +25,7 @@ ghost use Rattle.form.specs.Statements.{statements};
 ghost use Rattle.walk.specs.Walk.{origin};
 ghost use Rattle.walk.specs.Values.{declarations, same};
 ghost use Rattle.walk.specs.Numbers.{numbersBy, readsNoted};
-ghost use Rattle.checker.specs.Check.{count, valuesOf, part, checkedBy};
+ghost use Rattle.checker.specs.Check.{count, valuesOf, covered, checkedBy};
 ghost use Rattle.checker.specs.Call.{isAllowed, checkOf, saysChecked};
 ghost use Rattle.checker.specs.Steps.{putIn};
 
@@ -172,7 +172,7 @@ fn number_at(list: &[i64], i: usize) -> i64
 fn judge<'a>(image: &'a [u8], first: usize, end: usize, start: usize, bytes: &'a [u8]) -> Checked
     requires { ⌜ (first ≤ end) × (end ≤ length (now image)) ⌝ }
     ensures { λ r. ⌜ saysChecked r
-        ≡ pick (eqb start first && same eqb (now (bytes .entry)) (part first end (now (image .entry)))) (Fine tt) (Fault bytesDiffer 0) ⌝ }
+        ≡ pick (eqb start first && same eqb (now (bytes .entry)) (covered first end (now (image .entry)))) (Fine tt) (Fault bytesDiffer 0) ⌝ }
 {
     if start != first {
         return refused(BYTES_DIFFER, 0);

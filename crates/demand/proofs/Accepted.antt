@@ -37,7 +37,7 @@ use Rattle.builder.proofs.Builds.{fine-is}
 use Rattle.builder.proofs.Names.{allowed}
 use Rattle.builder.proofs.Kept.{finished-build}
 use Rattle.builder.proofs.Agrees.{tries-either}
-use Rattle.checker.specs.Check.{checker, part, checkedBy, checked}
+use Rattle.checker.specs.Check.{checker, covered, checkedBy, checked}
 use Rattle.checker.specs.Call.{checkOf}
 use Rattle.checker.proofs.Checks.{Allowed}
 use Rattle.demand.specs.Theorems.{Accepted, Counted}
@@ -103,16 +103,16 @@ module _ (tape : List ℕ) (initial : ℕ) (before after : Memory) (start end co
 module _ (reads : (ℕ → Option ℤ) → ℤ → ℕ → Value) (xs : List Statement) (o : Origin) (L : Values) (t : Trying) where
   checked-by : pass reads (numbered L) (begin o) xs ≡ L → tries reads builder (numbered L) (T.start o) xs ≡ Fine t
       → checkedBy reads xs o (numberList xs (map numberOr0 L)) (t .page .pen .start)
-      (part (t .page .pen .start) (t .page .pen .end) (t .page .image)) ≡ Fine tt
+      (covered (t .page .pen .start) (t .page .pen .end) (t .page .image)) ≡ Fine tt
   unfolding checkedBy
   checked-by back tried =
       let spread = rw back at (spread-back reads builder (numbered L) (T.start o) xs tried) in
       rw (eq-eqb _ _ (list-length xs (map numberOr0 L)), spread, tries-either reads L checker builder (T.start o) xs back, tried)
-      (judged-is (t .page .pen .start) (part (t .page .pen .start) (t .page .pen .end) (t .page .image)) t refl refl)
+      (judged-is (t .page .pen .start) (covered (t .page .pen .start) (t .page .pen .end) (t .page .image)) t refl refl)
 
--- no part of an image is longer than it
-part-short : (start end : ℕ) (image : List ℕ) → length image ≡ size → length (part start end image) ≤ size
-part-short start end image e = omega (arith, length-take (end - start) (drop start image), length-drop start image, e)
+-- what is covered of an image is no longer than it
+covered-short : (start end : ℕ) (image : List ℕ) → length image ≡ size → length (covered start end image) ≤ size
+covered-short start end image e = omega (arith, length-take (end - start) (drop start image), length-drop start image, e)
 
 -- with arguments in their ranges, the names of the tape come first
 check-allowed : (tape : List ℕ) (initial : ℕ) (numbers : List ℤ) (start : ℕ) (bytes : List ℕ) {t : SymbolTable}
@@ -125,7 +125,7 @@ check-allowed tape initial numbers start bytes a names = rw (allowed-is (length 
 
 -- a finished build, by its own numbers, start and bytes
 build-accepted : (tape : List ℕ) (initial : ℕ) {b : Build} → length tape ≤ maxTape → initial ≤ size → built tape (origin initial) ≡ Fine b
-    → checkOf tape initial (b .numbers) (b .start) (part (b .start) (b .end) (b .image)) ≡ Fine tt
+    → checkOf tape initial (b .numbers) (b .start) (covered (b .start) (b .end) (b .image)) ≡ Fine tt
 build-accepted tape initial short low e =
     let o = origin initial in
     let f = finished-build tape o e in
@@ -133,19 +133,19 @@ build-accepted tape initial short low e =
     let pen = f .walked .page .pen in
     let image = f .walked .page .image in
     let inside = tries-sound reads builder (numbered (f .values)) o (statements tape) low (f .tried) in
-    (λ i. checkOf tape initial (f .numbers i) (f .start i) (part (f .start i) (f .end i) (f .image i)))
-    ∙ check-allowed tape initial _ (pen .start) (part (pen .start) (pen .end) image) (record {
+    (λ i. checkOf tape initial (f .numbers i) (f .start i) (covered (f .start i) (f .end i) (f .image i)))
+    ∙ check-allowed tape initial _ (pen .start) (covered (pen .start) (pen .end) image) (record {
       tape = short;
       initial = low;
       start = omega (arith, inside .forward, inside .end);
-      bytes = part-short (pen .start) (pen .end) image (inside .image);
+      bytes = covered-short (pen .start) (pen .end) image (inside .image);
     }) (f .names)
     ∙ checked-by reads (statements tape) o (f .values) (f .walked) (f .back) (f .tried)
 
 pub accepted : Accepted
 accepted tape initial before after start end count passes e =
     let k = finished-call tape initial before after start end count passes e in
-    (λ i. checkOf tape initial (k .numbers i) (k .start-is i) (part (k .start-is i) (k .end-is i) (k .image i)))
+    (λ i. checkOf tape initial (k .numbers i) (k .start-is i) (covered (k .start-is i) (k .end-is i) (k .image i)))
     ∙ build-accepted tape initial (k .tape-short) (k .initial-low) (k .is)
 
 pub counted : Counted

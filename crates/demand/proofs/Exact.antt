@@ -19,7 +19,7 @@ use Rattle.walk.specs.Values.{same}
 use Rattle.walk.proofs.Equal.{same-true, same-same}
 use Rattle.tries.specs.Tries.{Trying, start, tries}
 use Rattle.reads.specs.Reads.{readsOn}
-use Rattle.checker.specs.Check.{count, checker, part, isWritten, judged, checkedBy, checked}
+use Rattle.checker.specs.Check.{count, checker, covered, isWritten, judged, checkedBy, checked}
 use Rattle.checker.specs.Call.{isAllowed, checkOf}
 use Rattle.checker.proofs.Checks.{Allowed, allowed}
 use Rattle.demand.specs.Demand.{numbers, writeAt, Fits, Demand}
@@ -33,15 +33,15 @@ use Rattle.demand.proofs.Right.{fine-right, right-fine}
 module _ (start : ℕ) (bytes : List ℕ) (t : Trying) where
   -- they are accepted where they are those of the page
   judged-has : judged start bytes t ≡ Fine tt
-      → (start ≡ t .page .pen .start) × (bytes ≡ part (t .page .pen .start) (t .page .pen .end) (t .page .image))
+      → (start ≡ t .page .pen .start) × (bytes ≡ covered (t .page .pen .start) (t .page .pen .end) (t .page .image))
   unfolding judged isWritten
   judged-has e =
-      let covered = part (t .page .pen .start) (t .page .pen .end) (t .page .image) in
-      let (passed, _) = fine-passed (eqb start (t .page .pen .start) && same eqb bytes covered) (Fine tt) _ _ e in
-      let (s, b) = and-eq-true-iff (eqb start (t .page .pen .start)) (same eqb bytes covered) .0 passed in
-      (eqb-true start (t .page .pen .start) s, same-true eqb eqb-true bytes covered b)
+      let all = covered (t .page .pen .start) (t .page .pen .end) (t .page .image) in
+      let (passed, _) = fine-passed (eqb start (t .page .pen .start) && same eqb bytes all) (Fine tt) _ _ e in
+      let (s, b) = and-eq-true-iff (eqb start (t .page .pen .start)) (same eqb bytes all) .0 passed in
+      (eqb-true start (t .page .pen .start) s, same-true eqb eqb-true bytes all b)
 
-  pub judged-is : start ≡ t .page .pen .start → bytes ≡ part (t .page .pen .start) (t .page .pen .end) (t .page .image)
+  pub judged-is : start ≡ t .page .pen .start → bytes ≡ covered (t .page .pen .start) (t .page .pen .end) (t .page .image)
       → judged start bytes t ≡ Fine tt
   unfolding judged isWritten
   judged-is s b = rw (eq-eqb start (t .page .pen .start) s, b, same-same eqb (λ k. eq-eqb k k refl))

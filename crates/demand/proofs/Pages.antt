@@ -16,7 +16,7 @@ use Rattle.segment.specs.Segment.{size, begun, widened, ground}
 use Rattle.segment.proofs.Laws.{Sound}
 use Rattle.walk.specs.Walk.{Origin}
 use Rattle.tries.specs.Tries.{Page, blank, drawn}
-use Rattle.checker.specs.Check.{part}
+use Rattle.checker.specs.Check.{covered}
 use Rattle.demand.specs.Demand.{Write, until, Covers, ByteAt, Writing, Spans}
 use Rattle.demand.proofs.Painted.{byte-blank, byte-over, byte-kept, byte-same, writing-more, writing-fewer}
 use Rattle.demand.proofs.Painted.{spans-blank, spans-kept, spans-wider, spans-first, spans-same}
@@ -160,24 +160,24 @@ module _ (f : ℕ → Write) (o : Origin) where
 
   module _ (n : ℕ) (p : Page) (h : Holds n p) (start : ℕ) (bytes : List ℕ) where
     -- the bytes of its range
-    abbrev covered : List ℕ
-    covered = part (p .pen .start) (p .pen .end) (p .image)
+    abbrev held : List ℕ
+    held = covered (p .pen .start) (p .pen .end) (p .image)
 
     abbrev Asked : Type 0
     Asked = Spans n f (o .initial) start (start + length bytes) × ((k : ℕ) → k < length bytes → ByteAt n f (start + k) (getD bytes k 0))
 
     -- it is as long as the range, and has the image's bytes
-    covered-long : length covered ≡ p .pen .end - p .pen .start
+    covered-long : length held ≡ p .pen .end - p .pen .start
     covered-long =
         length-take-le (p .pen .end - p .pen .start) (drop (p .pen .start) (p .image))
         (omega (arith, length-drop (p .pen .start) (p .image), h .long, h .sound .end))
 
-    covered-at : (k : ℕ) → k < p .pen .end - p .pen .start → getD covered k 0 ≡ getD (p .image) (p .pen .start + k) 0
+    covered-at : (k : ℕ) → k < p .pen .end - p .pen .start → getD held k 0 ≡ getD (p .image) (p .pen .start + k) 0
     covered-at k l =
         getD-take (p .pen .end - p .pen .start) (drop (p .pen .start) (p .image)) k 0 l ∙ getD-drop (p .pen .start) (p .image) k 0
 
     -- what the page holds is asked for
-    pub held-asked : start ≡ p .pen .start → bytes ≡ covered → Asked
+    pub held-asked : start ≡ p .pen .start → bytes ≡ held → Asked
     held-asked s b = (rw (s, whole) (h .range), at)
       where
         long : length bytes ≡ p .pen .end - p .pen .start
@@ -192,16 +192,16 @@ module _ (f : ℕ → Write) (o : Origin) where
             rw (s, is) (h .byte (p .pen .start + k))
 
     -- and what is asked for, it holds
-    pub asked-held : Asked → (start ≡ p .pen .start) × (bytes ≡ covered)
-    asked-held (s, w) = (same .0, ext-getD 0 bytes covered long at)
+    pub asked-held : Asked → (start ≡ p .pen .start) × (bytes ≡ held)
+    asked-held (s, w) = (same .0, ext-getD 0 bytes held long at)
       where
         same : (start ≡ p .pen .start) × (start + length bytes ≡ p .pen .end)
         same = spans-same f n (o .initial) _ _ _ _ s (h .range)
 
-        long : length bytes ≡ length covered
+        long : length bytes ≡ length held
         long = omega (arith, covered-long, same .0, same .1)
 
-        at : (k : ℕ) → k < length bytes → getD bytes k 0 ≡ getD covered k 0
+        at : (k : ℕ) → k < length bytes → getD bytes k 0 ≡ getD held k 0
         at k l =
             let there : p .pen .start + k ≡ start + k = omega (arith, same .0) in
             byte-same f n (start + k) _ _ (w k l) (rw there at (h .byte (p .pen .start + k)))

@@ -1,6 +1,6 @@
--- Demand 3: what numbers, a start and bytes have to be, for a tape from an initial place. Every label's number is its record's place,
--- every constant's number is its expression under those numbers, no argument, form, name or record is refused, and start and bytes are
--- those that the records write, a later record over an earlier one, zero where none writes.
+-- Demand 3: when numbers, a start and bytes fit a tape from an initial place. A label has the number of the place where its record
+-- stands, and a constant what its expression comes to if all names have these numbers; nothing is refused; and the bytes are what the
+-- records leave in memory that was zero, where a later one goes over those before it, from the first byte written to the last.
 -- Nothing here walks a tape and compares: a place is given by what stands before it, a byte by the last record that writes there.
 -- Assumes nothing: these are definitions.
 use Prim.Native.Nat.{ℕ, _+_, _-_, _≤_, _<_}

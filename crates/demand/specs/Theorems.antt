@@ -17,12 +17,12 @@ use Rattle.walk.specs.Walk.{origin}
 use Rattle.passes.specs.Least.{Least}
 use Rattle.reads.specs.Reads.{readsOn}
 use Rattle.builder.specs.Call.{Memory, buildOf}
-use Rattle.checker.specs.Check.{part}
+use Rattle.checker.specs.Check.{covered}
 use Rattle.checker.specs.Refusals.{refusals}
 use Rattle.checker.specs.Call.{isAllowed, checkOf}
 use Rattle.demand.specs.Demand.{Demand}
 
--- the checker "accepts exactly when they fit"
+-- the checker accepts exactly what fits
 abbrev pub Exact : Type 0
 Exact =
     (tape : List ℕ) (initial : ℕ) (numbers : List ℤ) (start : ℕ) (bytes : List ℕ)
@@ -33,7 +33,7 @@ abbrev pub Accepted : Type 0
 Accepted =
     (tape : List ℕ) (initial : ℕ) (before after : Memory) (start end count passes : ℕ)
     → buildOf tape initial before ≡ (Fine (start, end, count, passes), after)
-    → checkOf tape initial (take count (after .list)) start (part start end (after .image)) ≡ Fine tt
+    → checkOf tape initial (take count (after .list)) start (covered start end (after .image)) ≡ Fine tt
 
 -- and reports "the least n, 1 to 16, with Ln equal to L(n-1)"
 abbrev pub Counted : Type 0

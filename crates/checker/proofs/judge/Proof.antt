@@ -1,6 +1,6 @@
 -- The start, then the bytes. Assumes nothing.
 use mathlib.Core.Path.{sym, _∙_}
-use Rattle.checker.specs.Check.{part}
+use Rattle.checker.specs.Check.{covered}
 use Rattle.checker.proofs.Bytes.{start-differs, bytes-same, bytes-differ}
 use borrow.Author.Needs.{needs}
 use Rattle.checker.proofs.judge.Statement.{statement}
@@ -13,7 +13,7 @@ returns : tie.Need-returns
 returns c =
     let tested = c .before in
     let args = tested .before .before .before .args in
-    let written = part (args .first) (args .end) (args .image .now) in
+    let written = covered (args .first) (args .end) (args .image .now) in
     c .refused .ensures ∙ start-differs (args .start) (args .first) (args .bytes .now) written (tested .if1 .taken)
 
 sub-same : tie.Need-sub-same
@@ -35,7 +35,7 @@ returns-2 : tie.Need-returns-2
 returns-2 c =
     let tested = c .before .before .before in
     let args = tested .before .before .before .args in
-    let written = part (args .first) (args .end) (args .image .now) in
+    let written = covered (args .first) (args .end) (args .image .now) in
     bytes-same (args .start) (args .first) (args .bytes .now) written (tested .if1 .left) (sym (c .before .same .ensures) ∙ c .if2 .taken)
 
 returns-3 : tie.Need-returns-3
@@ -43,7 +43,7 @@ returns-3 c =
     let differs = c .before in
     let tested = differs .before .before .before in
     let args = tested .before .before .before .args in
-    let written = part (args .first) (args .end) (args .image .now) in
+    let written = covered (args .first) (args .end) (args .image .now) in
     c .refused2 .ensures
     ∙ bytes-differ (args .start) (args .first) (args .bytes .now) written (tested .if1 .left)
     (sym (differs .before .same .ensures) ∙ differs .if2 .left)
