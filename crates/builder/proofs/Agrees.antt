@@ -9,10 +9,9 @@ use lib.Dec.{eqb}
 use lib.IntN.{ℤ}
 use lib.ListN.{getD, drop}
 use lib.Seq.{getD-drop, drop-drop, drop-at}
-use Rattle.refusals.specs.Answer.{Answer, Done, Refused, pick}
-use Rattle.refusals.specs.AnswerAt.{AnswerAt, Fine, Fault, mapped, andThen}
-use Rattle.refusals.proofs.Never.{never}
-use Rattle.form.specs.Statements.{What, Instruction, Open, Close, Label, Constant, SetPlace, Byte, Word, Screen, Statement, placed}
+use Rattle.refusals.specs.Answer.{pick}
+use Rattle.refusals.specs.AnswerAt.{AnswerAt, Fine, Fault, andThen}
+use Rattle.form.specs.Statements.{What, Instruction, Open, Close, Label, Constant, SetPlace, Byte, Word, Screen, Statement}
 use Rattle.evaluator.specs.Expression.{Value, Number, Unresolved, Refuses}
 use Rattle.walk.specs.declared.Walk.{Walk}
 use Rattle.walk.specs.Walk.{Origin, here, namesIn, step}
@@ -23,34 +22,8 @@ use Rattle.passes.proofs.Passing.{gives-length}
 use Rattle.passes.proofs.Settles.{gives-back}
 use Rattle.tries.specs.declared.Compares.{Compares}
 use Rattle.tries.specs.Try.{compared, tryOf}
-use Rattle.tries.specs.Tries.{Page, drawn, Trying, trying, start, tryAt, tried, tries}
-use Rattle.builder.proofs.Builds.{fine-is}
-
--- ---- one statement that passed
-
--- u: what is tried behind it
-pub record Passed (reads : (ℕ → Option ℤ) → ℤ → ℕ → Value) (c : Compares) (numbers : ℕ → Option ℤ) (t : Trying) (x : Statement)
-    (u : Trying) : Type 0 where
-  pub bytes : List ℕ
-  pub fine : tryAt reads c numbers (t .walk) x ≡ Fine bytes
-  pub walk : u .walk ≡ stepAt reads numbers (t .walk) x
-
-module _ (reads : (ℕ → Option ℤ) → ℤ → ℕ → Value) (c : Compares) (numbers : ℕ → Option ℤ) where
-  pub passed : (t : Trying) (x : Statement) {u : Trying} → tried reads c numbers t x ≡ Fine u → Passed reads c numbers t x u
-  unfolding tried
-  passed t x {u} e = go (tryAt reads c numbers (t .walk) x) refl e
-    where
-      put : (bs : List ℕ) → tryAt reads c numbers (t .walk) x ≡ Fine bs → (a : Answer Page)
-          → mapped (λ p. trying (stepAt reads numbers (t .walk) x) p) (placed (x .at) a) ≡ Fine u → Passed reads c numbers t x u
-      put bs is (Done p) e = record { bytes = bs; fine = is; walk = ap (λ (v : Trying). v .walk) (sym (fine-is u e)) }
-      put bs is (Refused n) e = never (cc)
-
-      go : (a : AnswerAt (List ℕ)) → tryAt reads c numbers (t .walk) x ≡ a
-          → andThen a
-          (λ bs. mapped (λ p. trying (stepAt reads numbers (t .walk) x) p) (placed (x .at) (drawn (t .page) (t .walk .place) bs)))
-          ≡ Fine u → Passed reads c numbers t x u
-      go (Fine bs) is e = put bs is (drawn (t .page) (t .walk .place) bs) e
-      go (Fault n at) is e = never (cc)
+use Rattle.tries.specs.Tries.{Trying, start, tryAt, tried, tries}
+use Rattle.tries.proofs.Passed.{tried-has}
 
 -- ---- one statement whose name has the number that a pass gives it
 
@@ -128,7 +101,8 @@ module _ (reads : (ℕ → Option ℤ) → ℤ → ℕ → Value) (L : Values) w
             → (a : AnswerAt Trying) → tried reads d (numbered L) t x ≡ a
             → andThen a (λ u. tries reads c (numbered L) u xs) ≡ andThen a (λ u. tries reads d (numbered L) u xs)
         go rest (Fine u) is =
-            rest u (subst (λ (w : Walk). Back w xs) (sym (passed reads d (numbered L) t x is .walk)) (back-on (t .walk) x xs e))
+            let there = ap (λ (v : Trying). v .walk) (tried-has reads d (numbered L) t x is .is) in
+            rest u (subst (λ (w : Walk). Back w xs) there (back-on (t .walk) x xs e))
         go rest (Fault n at) is = refl
 
 -- settled numbers are given back, so what is compared makes no difference

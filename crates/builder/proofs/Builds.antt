@@ -10,6 +10,7 @@ use lib.ListN.{length, getD, drop, replicate}
 use borrow.Author.Tests.{lt-ltb}
 use Rattle.refusals.specs.AnswerAt.{AnswerAt, Fine, Fault, mapped, andThen}
 use Rattle.refusals.proofs.Never.{never}
+use Rattle.refusals.proofs.Answers.{fine-value, fault-is}
 use Rattle.segment.specs.Segment.{size}
 use Rattle.symbols.specs.Symbols.{numberOr0}
 use Rattle.form.specs.Form.{maxTape}
@@ -34,7 +35,6 @@ use Rattle.tries.specs.declared.Written.the-variants as written
 use Rattle.tries.specs.Tries.{Trying, start, tries}
 use Rattle.tries.specs.Write.{rangeOf, saysWritten, imageOr}
 use Rattle.tries.proofs.Agrees.{tries-alike}
-use Rattle.reads.proofs.Names.{fault-is}
 use Rattle.builder.specs.Build.{Build, builder, listed, numberList, finished, triedWith, builtBy}
 use Rattle.builder.specs.Call.{Report, report, Memory, memory, left}
 use Rattle.builder.specs.Steps.{imageFrom, listFrom, finishedIn, triedIn}
@@ -108,14 +108,6 @@ module _ (r : Reads) (xs : List Statement) (o : Origin) (few : declarations xs <
 
 -- ---- what the tries answer
 
--- two values that are equal
-abbrev fineOr : {A : Type 0} → A → AnswerAt A → A
-fineOr d (Fine a) = a
-fineOr d (Fault n at) = d
-
-pub fine-is : {A : Type 0} (d : A) {a b : A} → Fine a ≡ Fine b → a ≡ b
-fine-is d e = ap (fineOr d) e
-
 -- what is left of the image and of the list
 abbrev pub Left : AnswerAt Report → (image image′ : List ℕ) (list list′ : List ℤ) → AnswerAt Build → Type 0
 Left b image image′ list list′ a = (b ≡ mapped report a) × (image′ ≡ imageFrom image a) × (list′ ≡ listFrom list a)
@@ -134,7 +126,7 @@ module _ (F : Trying → Build) (image : List ℕ) (list : List ℤ) {w : W.Writ
       × (c ≡ length (F t .numbers)) × (F t .passes ≡ n) × (list′ ≡ filled 1024 (pos 0) (F t .numbers)))
       → Left (Fine (from, to, c, n)) image image′ list list′ (mapped F a)
   tried-done {from} {to} is (Fine t) e i told =
-      let both : _≡_ {A = ℕ × ℕ} (from, to) (rangeOf t) = fine-is (0, 0) (sym (ap saysWritten is) ∙ e) in
+      let both : _≡_ {A = ℕ × ℕ} (from, to) (rangeOf t) = fine-value (sym (ap saysWritten is) ∙ e) in
       let f = told t in (
         (λ j. Fine ((ap (λ p. p .0) both ∙ sym (f .0)) j, (ap (λ p. p .1) both ∙ sym (f .1)) j, f .3 j, sym (f .4) j)),
         i ∙ sym (f .2),
@@ -152,7 +144,7 @@ module _ {p : P.Passes} {numbers : Numbers} where
   pub settled-after : {n : ℕ} → p ≡ after.After n → (a : AnswerAt (ℕ × Values)) → (saysPasses p, numbers) ≡ S.left a
       → (L : Values) × (a ≡ Fine (n, L)) × (numbers ≡ numbersBy L)
   settled-after is (Fine (n, L)) e =
-      let same = fine-is 0 (sym (ap saysPasses is) ∙ ap (λ x. x .0) e) in
+      let same = fine-value (sym (ap saysPasses is) ∙ ap (λ x. x .0) e) in
       (L, (λ j. Fine (sym same j, L)), ap (λ x. x .1) e)
   settled-after is (Fault n i) e = never (let f = sym (ap saysPasses is) ∙ ap (λ x. x .0) e in cc)
 

@@ -7,6 +7,7 @@ use lib.ListN.{getD}
 use Rattle.refusals.specs.AnswerAt.{AnswerAt, Fine, Fault, mapped, andThen}
 use Rattle.refusals.specs.Table.{notSettled}
 use Rattle.refusals.proofs.Never.{never}
+use Rattle.refusals.proofs.Answers.{fine-value}
 use Rattle.symbols.specs.declared.SymbolTable.{SymbolTable}
 use Rattle.symbols.specs.Symbols.{numberOr0}
 use Rattle.form.specs.Statements.{statements}
@@ -20,7 +21,7 @@ use Rattle.tries.specs.Tries.{Trying, start, tries}
 use Rattle.tries.proofs.Zero.{clean-blank, clean-tries}
 use Rattle.reads.specs.Reads.{readsOn}
 use Rattle.builder.specs.Build.{Build, builder, numberList, finished, triedWith, builtBy, built}
-use Rattle.builder.proofs.Builds.{fine-is, built-refused}
+use Rattle.builder.proofs.Builds.{built-refused}
 
 pub record Built (tape : List ℕ) (o : Origin) (b : Build) : Type 0 where
   -- the table of the tape's names
@@ -50,7 +51,7 @@ module _ (tape : List ℕ) (o : Origin) where
           → (a : AnswerAt Trying) → tries (readsOn tape t) builder (numbered L) (start o) (statements tape) ≡ a
           → mapped (finished (readsOn tape t) (statements tape) o n L) a ≡ Fine b → Built tape o b
       written t is n L settles (Fine w) tried e =
-          let same = fine-is b e in
+          let same = fine-value e in
           subst (Built tape o) same (record {
             table = t;
             names = is;

@@ -21,6 +21,7 @@ use Rattle.walk.specs.Values.{declarations}
 use Rattle.walk.specs.Numbers.{filled}
 use Rattle.walk.proofs.Columns.{fill-next}
 use Rattle.walk.proofs.Records.{inner-none}
+use Rattle.walk.proofs.Counting.{numbered-free}
 use Rattle.builder.specs.Build.{listed, numberList}
 
 -- ---- what a record adds
@@ -107,12 +108,7 @@ module _ (tape : List ℕ) (l : List ℤ) where
 
       -- a name that is to be declared has a place in the arrays
       pub listing-free : isNumbered k ≡ true → names + 1 < 1024
-      listing-free e = go (declares k) (numbered-declares k) (adds .1)
-        where
-          go : (d : Bool) → (d ≡ false → isNumbered k ≡ false)
-              → declarations (statementsAt tape at) ≡ pick d 1 0 + declarations (statementsAt tape next) → names + 1 < 1024
-          go true h a = omega (arith, g .room, a)
-          go false h a = absurd (true≢false (sym e ∙ h refl))
+      listing-free e = numbered-free k names (declarations (statementsAt tape next)) (adds .1) (g .room) e
 
       pub listing-on : {v : ℤ} {list′ : List ℤ} {count′ names′ : ℕ} → v ≡ getD (drop names l) 0 (pos 0)
           → list′ ≡ pick (isNumbered k) (set list count v) list → count′ ≡ pick (isNumbered k) (count + 1) count

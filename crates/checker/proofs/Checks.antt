@@ -14,6 +14,7 @@ use Rattle.refusals.specs.Answer.{pick}
 use Rattle.refusals.specs.AnswerAt.{AnswerAt, Fine, Fault, mapped, andThen}
 use Rattle.refusals.specs.Table.{numberDiffers, bytesDiffer}
 use Rattle.refusals.proofs.Never.{never}
+use Rattle.refusals.proofs.Answers.{fault-is}
 use Rattle.segment.specs.Segment.{size}
 use Rattle.symbols.specs.declared.SymbolTable.{SymbolTable}
 use Rattle.form.specs.Form.{maxTape}
@@ -31,7 +32,7 @@ use Rattle.tries.specs.Write.{triedAll, writeOf, rangeOf, imageOr}
 use Rattle.tries.proofs.Agrees.{tries-alike, write-allowed}
 use Rattle.tries.proofs.Sound.{tries-sound}
 use Rattle.reads.specs.Reads.{readsOn}
-use Rattle.reads.proofs.Names.{declare-is, fault-is}
+use Rattle.reads.proofs.Names.{declare-is}
 use Rattle.reads.proofs.Reading.{all-alike}
 use Rattle.checker.specs.Check.{counts, count, valued, valuesOf, checker, covered, isWritten, judged, checkedBy, checked}
 use Rattle.checker.specs.Call.{isAllowed}
@@ -59,7 +60,7 @@ allowed t i s b e =
 
 -- ---- each name has one value
 
-valued-length : (x : What) (l : List ℤ) → length (valued x l) ≡ namesIn x
+pub valued-length : (x : What) (l : List ℤ) → length (valued x l) ≡ namesIn x
 valued-length (Label id) l = refl
 valued-length (Constant id) l = refl
 valued-length (Open id) l = refl

@@ -20,7 +20,7 @@ use Rattle.walk.specs.declared.Numbers.{Numbers}
 use Rattle.walk.specs.Values.{Values, declarations}
 use Rattle.walk.specs.Numbers.{filled, numbersBy}
 use Rattle.walk.proofs.Columns.{column, column-more, known-length, number-length, both}
-use Rattle.walk.proofs.Counting.{names-on}
+use Rattle.walk.proofs.Counting.{names-on, numbered-free}
 use Rattle.walk.proofs.Records.{inner-none}
 use Rattle.checker.specs.Check as Check
 use Rattle.checker.specs.Check.{counts, valued, valuesOf}
@@ -162,12 +162,7 @@ module _ (tape : List ℕ) (list : List ℤ) where
 
       -- a name that is to be declared has a place in the arrays
       pub spreading-free : isNumbered k ≡ true → names + 1 < 1024
-      spreading-free e = go (declares k) (numbered-declares k) (adds .2)
-        where
-          go : (d : Bool) → (d ≡ false → isNumbered k ≡ false)
-              → declarations (statementsAt tape at) ≡ pick d 1 0 + declarations (statementsAt tape next) → names + 1 < 1024
-          go true h a = omega (arith, g .room, a)
-          go false h a = absurd (true≢false (sym e ∙ h refl))
+      spreading-free e = numbered-free k names (declarations (statementsAt tape next)) names-added (g .room) e
 
       pub spreading-on : {known′ : List Bool} {number′ : List ℤ} {count′ n : ℕ} → known′ ≡ putIn known names k true
           → number′ ≡ putIn number names k (getD list count (pos 0)) → count′ ≡ pick (isNumbered k) (count + 1) count

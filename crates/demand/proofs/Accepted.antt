@@ -13,6 +13,7 @@ use Rattle.refusals.specs.Answer.{pick}
 use Rattle.refusals.specs.AnswerAt.{AnswerAt, Fine, Fault}
 use Rattle.refusals.specs.Table.{argument}
 use Rattle.refusals.proofs.Never.{never}
+use Rattle.refusals.proofs.Answers.{fine-value}
 use Rattle.segment.specs.Segment.{size}
 use Rattle.symbols.specs.declared.SymbolTable.{SymbolTable}
 use Rattle.symbols.specs.Edges.{maxNodes}
@@ -33,7 +34,6 @@ use Rattle.reads.specs.Reads.{readsOn}
 use Rattle.builder.specs.Build.{Build, builder, numberList, built}
 use Rattle.builder.specs.Call as call
 use Rattle.builder.specs.Call.{Memory, report, left, buildOf}
-use Rattle.builder.proofs.Builds.{fine-is}
 use Rattle.builder.proofs.Names.{allowed}
 use Rattle.builder.proofs.Kept.{finished-build}
 use Rattle.builder.proofs.Agrees.{tries-either}
@@ -73,7 +73,7 @@ module _ (tape : List ℕ) (initial : ℕ) (before after : Memory) (start end co
       done : length tape ≤ maxTape → initial ≤ size → (a : AnswerAt Build) → built tape (origin initial) ≡ a
           → left before a ≡ (Fine (start, end, count, passes), after) → Call tape initial start end count passes after
       done short low (Fine b) is e =
-          let r : report b ≡ (start, end, count, passes) = fine-is (0, 0, 0, 0) (ap (λ p. p .0) e) in
+          let r : report b ≡ (start, end, count, passes) = fine-value (ap (λ p. p .0) e) in
           let list : filled maxNodes (pos 0) (b .numbers) ≡ after .list = ap (λ p. p .1 .list) e in
           record {
             build = b;

@@ -7,7 +7,7 @@ use mathlib.Core.Option.{Option, none, some}
 use mathlib.Core.Path.{_≡_, refl, sym, ap, _∙_}
 use Prim.Native.Nat.{ℕ, zero, suc, _+_}
 use lib.IntN.{ℤ, pos}
-use lib.ListN.{length, getD, take, drop}
+use lib.ListN.{getD, take, drop}
 use lib.Seq.{getD-drop, getD-append-add}
 use Rattle.refusals.specs.Answer.{pick}
 use Rattle.refusals.specs.AnswerAt.{Fine, Fault}
@@ -15,11 +15,11 @@ use Rattle.refusals.specs.Table.{numberDiffers}
 use Rattle.refusals.proofs.Never.{never}
 use Rattle.form.specs.Statements.{What, Instruction, Open, Close, Label, Constant, SetPlace, Byte, Word, Screen, Statement}
 use Rattle.evaluator.specs.Expression.{Value, Number, Unresolved, Refuses}
-use Rattle.walk.specs.Walk.{namesIn}
 use Rattle.walk.specs.Values.{eqValue, declarations}
 use Rattle.walk.proofs.Equal.{eqValue-true, eqValue-same}
 use Rattle.tries.specs.Try.{compared, plain, tryOf}
 use Rattle.checker.specs.Check.{counts, count, valued, valuesOf, checker}
+use Rattle.checker.proofs.Checks.{valued-length}
 use Rattle.demand.specs.Demand.{statementAt}
 
 -- ---- one try
@@ -72,18 +72,6 @@ module _ (own : Option ℤ) (n : ℤ) (at : ℕ) (bs : List ℕ) where
 
 -- ---- the number of statement i
 
--- a statement has a value for each name that it declares
-valued-long : (w : What) (N : List ℤ) → length (valued w N) ≡ namesIn w
-valued-long (Label id) N = refl
-valued-long (Constant id) N = refl
-valued-long (Open id) N = refl
-valued-long Close N = refl
-valued-long (Instruction m o s) N = refl
-valued-long SetPlace N = refl
-valued-long Byte N = refl
-valued-long Word N = refl
-valued-long (Screen petscii) N = refl
-
 -- those before it have as many names as they declare, and as many numbers as they count
 pub own-value : (xs : List Statement) (N : List ℤ) (i : ℕ) → counts (statementAt xs i .says) ≡ 1
     → getD (valuesOf xs N) (declarations (take i xs)) none ≡ some (getD N (count (take i xs)) (pos 0))
@@ -102,7 +90,7 @@ own-value (x ∷ xs) N zero e = go (x .says) e
     go (Screen petscii) e = never (cc)
 own-value (x ∷ xs) N (suc i) e =
     let rest = valuesOf xs (drop (counts (x .says)) N) in
-    ap (λ (k : ℕ). getD (valued (x .says) N ++ rest) (k + declarations (take i xs)) none) (sym (valued-long (x .says) N))
+    ap (λ (k : ℕ). getD (valued (x .says) N ++ rest) (k + declarations (take i xs)) none) (sym (valued-length (x .says) N))
     ∙ getD-append-add (valued (x .says) N) rest (declarations (take i xs)) none
     ∙ own-value xs (drop (counts (x .says)) N) i e
     ∙ ap some (getD-drop (counts (x .says)) N (count (take i xs)) (pos 0))

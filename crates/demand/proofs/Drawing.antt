@@ -7,12 +7,12 @@ use lib.ListN.{length}
 use borrow.Author.Tests.{le-leb, eq-eqb}
 use Rattle.refusals.specs.Answer.{Done}
 use Rattle.refusals.specs.Memory.{over}
+use Rattle.refusals.proofs.Answers.{done-then, done-mapped}
 use Rattle.segment.specs.declared.Pen.{Pen}
 use Rattle.segment.specs.Segment.{size, soundOver, ofPen, ofBoth, setPc, fits, widened, ground, emit, imageAfter}
 use Rattle.segment.proofs.Laws.{Sound, sound-has, sound-is}
 use Rattle.segment.proofs.Kept.{set-pc-place, set-pc-sound, emit-has, emit-sound}
 use Rattle.tries.specs.Tries.{Page, page, drawn}
-use Rattle.demand.proofs.Answers.{done-then, done-mapped}
 
 -- the pen, gone to a place
 abbrev gone : Pen → ℕ → Pen

@@ -9,6 +9,7 @@ use lib.IntN.{ℤ}
 use lib.ListN.{length}
 use borrow.Author.Tests.{eqb-true, eq-eqb, le-leb}
 use Rattle.refusals.specs.AnswerAt.{Fine}
+use Rattle.refusals.proofs.Answers.{fine-passed, fine-then}
 use Rattle.segment.specs.Segment.{size}
 use Rattle.form.specs.Form.{maxTape}
 use Rattle.form.specs.Statements.{Statement, statements}
@@ -24,7 +25,6 @@ use Rattle.checker.specs.Call.{isAllowed, checkOf}
 use Rattle.checker.proofs.Checks.{Allowed, allowed}
 use Rattle.demand.specs.Demand.{numbers, writeAt, Fits, Demand}
 use Rattle.demand.specs.Theorems.{Exact}
-use Rattle.demand.proofs.Answers.{fine-passed, fine-then}
 use Rattle.demand.proofs.Pages.{held-asked, asked-held}
 use Rattle.demand.proofs.Right.{fine-right, right-fine}
 

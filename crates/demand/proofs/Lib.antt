@@ -1,6 +1,5 @@
 -- The checker accepts exactly what demand 3 asks; every finished build is accepted, and its count is the least; and with which numbers a
 -- check is refused.
-pub mod Answers
 pub mod Painted
 pub mod Drawing
 pub mod Pages

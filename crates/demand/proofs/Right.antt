@@ -10,8 +10,8 @@ use native.Mathlib.Omega.{arith}
 use lib.IntN.{ℤ}
 use lib.ListN.{length, getD, take, drop, drop-of-length-le}
 use lib.Seq.{drop-cons}
-use Rattle.refusals.specs.Answer.{Done}
 use Rattle.refusals.specs.AnswerAt.{AnswerAt, Fine, andThen}
+use Rattle.refusals.proofs.Answers.{fine-then}
 use Rattle.segment.specs.Segment.{size}
 use Rattle.form.specs.Statements.{Constant, Statement}
 use Rattle.evaluator.specs.Expression.{Value}
@@ -19,10 +19,10 @@ use Rattle.walk.specs.declared.Walk.{Walk}
 use Rattle.walk.specs.Walk.{Origin, begin, here, step}
 use Rattle.walk.specs.Values.{valueAt, stepAt, declarations}
 use Rattle.tries.specs.Try.{plain}
-use Rattle.tries.specs.Tries.{Page, blank, drawn, start, Trying, trying, tryAt, tried, tries}
+use Rattle.tries.specs.Tries.{Page, blank, start, Trying, trying, tryAt, tried, tries}
+use Rattle.tries.proofs.Passed.{tried-has, tried-is}
 use Rattle.checker.specs.Check.{counts, valuesOf, checker}
 use Rattle.demand.specs.Demand.{behind, statementAt, numbers, walkAt, ownAt, writeAt, Right}
-use Rattle.demand.proofs.Answers.{fine-then, fine-placed}
 use Rattle.demand.proofs.Compared.{Numbered, try-right, own-value}
 use Rattle.demand.proofs.Pages.{Holds, holds-blank, draws, drew}
 
@@ -41,30 +41,6 @@ module _ (reads : (ℕ → Option ℤ) → ℤ → ℕ → Value) (numbers : ℕ
   behind-more w [] i l = absurd (omega arith)
   behind-more w (x ∷ xs) zero l = refl
   behind-more w (x ∷ xs) (suc i) l = behind-more (stepAt reads numbers w x) xs i (omega arith)
-
--- ---- a try and what it draws
-
-module _ (reads : (ℕ → Option ℤ) → ℤ → ℕ → Value) (numbers : ℕ → Option ℤ) (w : Walk) (p : Page) (x : Statement) where
-  -- a statement that passed: its bytes, and the page with them
-  record Passed (u : Trying) : Type 0 where
-    pub bytes : List ℕ
-    pub page : Page
-    pub fine : tryAt reads checker numbers w x ≡ Fine bytes
-    pub draws : drawn p (w .place) bytes ≡ Done page
-    pub is : trying (stepAt reads numbers w x) page ≡ u
-
-  tried-has : (u : Trying) → tried reads checker numbers (trying w p) x ≡ Fine u → Passed u
-  unfolding tried
-  tried-has u e =
-      let (bs, fine, more) = fine-then (tryAt reads checker numbers w x) _ u e in
-      let (q, draws, is) = fine-placed (λ r. trying (stepAt reads numbers w x) r) (x .at) (drawn p (w .place) bs) u more in
-      record { bytes = bs; page = q; fine = fine; draws = draws; is = is }
-
-  -- a statement passes where its try is fine and its bytes are drawn
-  tried-is : (bs : List ℕ) (q : Page) → tryAt reads checker numbers w x ≡ Fine bs → drawn p (w .place) bs ≡ Done q
-      → tried reads checker numbers (trying w p) x ≡ Fine (trying (stepAt reads numbers w x) q)
-  unfolding tried
-  tried-is bs q e d = rw (e, d)
 
 -- ---- record i
 
@@ -112,7 +88,7 @@ module _ (reads : (ℕ → Option ℤ) → ℤ → ℕ → Value) (xs : List Sta
       passed-right : (u : Trying) → tried reads checker ns (trying (w i) p) (x i) ≡ Fine u
           → Right reads xs o N i × ((q : Page) × (trying (stepAt reads ns (w i) (x i)) q ≡ u) × HoldsAt (suc i) q)
       passed-right u e =
-          let t = tried-has reads ns (w i) p (x i) u e in
+          let t = tried-has reads checker ns (trying (w i) p) (x i) e in
           let (fine, numbered) = try-at (t .bytes) .0 (t .fine) in
           let mine : writeAt reads xs o N i .bytes ≡ t .bytes = rw fine in
           let (room, holds) = drew (writeAt reads xs o N) o i p h (t .page) (rw mine (t .draws)) in (
@@ -130,7 +106,8 @@ module _ (reads : (ℕ → Option ℤ) → ℤ → ℕ → Value) (xs : List Sta
       right-passes r =
           let bs = writeAt reads xs o N i .bytes in
           let (q, d) = draws (writeAt reads xs o N) o i p h (r .room) in
-          (trying (stepAt reads ns (w i) (x i)) q, tried-is reads ns (w i) p (x i) bs q (try-at bs .1 (r .fine, right-numbered r)) d)
+          let fine = try-at bs .1 (r .fine, right-numbered r) in
+          (trying (stepAt reads ns (w i) (x i)) q, tried-is reads checker ns (trying (w i) p) (x i) bs q fine d)
 
   -- ---- from record i on, where m are left
 

@@ -2,25 +2,26 @@
 -- is refused. Assumes nothing.
 use mathlib.Core.List.{List, [], _∷_, _++_, map}
 use mathlib.Core.Option.{Option, none, some}
-use mathlib.Core.Path.{_≡_, refl, ap, _∙_, subst}
+use mathlib.Core.Path.{_≡_, refl, sym, ap, _∙_, subst}
 use Prim.Native.Nat.{ℕ, suc}
 use native.Mathlib.Omega.{arith}
 use lib.IntN.{ℤ}
 use lib.ListN.{length, drop, length-append}
-use Rattle.refusals.specs.AnswerAt.{AnswerAt, Fine, Fault, andThen}
+use Rattle.refusals.specs.AnswerAt.{Fine}
 use Rattle.refusals.proofs.Never.{never}
+use Rattle.refusals.proofs.Answers.{fine-then}
 use Rattle.symbols.specs.Symbols.{numberOr0}
 use Rattle.form.specs.Statements.{What, Instruction, Open, Close, Label, Constant, SetPlace, Byte, Word, Screen, Statement}
 use Rattle.evaluator.specs.Expression.{Value, Number, Unresolved, Refuses}
 use Rattle.walk.specs.declared.Walk.{Walk}
 use Rattle.walk.specs.Walk.{here, namesIn}
-use Rattle.walk.specs.Values.{Values, numberOf, valueAt}
+use Rattle.walk.specs.Values.{Values, numberOf, valueAt, stepAt}
 use Rattle.passes.specs.Passes.{gives, pass}
 use Rattle.tries.specs.declared.Compares.{Compares}
 use Rattle.tries.specs.Try.{tryOf}
 use Rattle.tries.specs.Tries.{Trying, tryAt, tried, tries}
+use Rattle.tries.proofs.Passed.{tried-has}
 use Rattle.builder.specs.Build.{listed, numberList}
-use Rattle.builder.proofs.Agrees.{passed}
 use Rattle.checker.specs.Check.{counts, count, valued, valuesOf}
 
 -- ---- how many
@@ -74,15 +75,10 @@ module _ (reads : (ℕ → Option ℤ) → ℤ → ℕ → Value) (c : Compares)
       → valuesOf xs (numberList xs (map numberOr0 (pass reads numbers (t .walk) xs))) ≡ pass reads numbers (t .walk) xs
   unfolding pass tryAt
   spread-back t [] e = refl
-  spread-back t (x ∷ xs) {u} e = go (λ v. spread-back v xs) (tried reads c numbers t x) refl e
-    where
-      go : ((v : Trying) → tries reads c numbers v xs ≡ Fine u
-          → respread xs (pass reads numbers (v .walk) xs) ≡ pass reads numbers (v .walk) xs)
-          → (a : AnswerAt Trying) → tried reads c numbers t x ≡ a → andThen a (λ v. tries reads c numbers v xs) ≡ Fine u
-          → respread (x ∷ xs) (pass reads numbers (t .walk) (x ∷ xs)) ≡ pass reads numbers (t .walk) (x ∷ xs)
-      go on (Fine v) is e =
-          let p = passed reads c numbers t x is in
-          let w = t .walk in
-          let rest = subst (λ (y : Walk). respread xs (pass reads numbers y xs) ≡ pass reads numbers y xs) (p .walk) (on v e) in
-          spread-one c (numbers (suc (w .names))) w (x .at) xs rest (x .says) (valueAt reads numbers w x) (p .fine)
-      go on (Fault n at) is e = never (cc)
+  spread-back t (x ∷ xs) {u} e =
+      let w = t .walk in
+      let (v, is, more) = fine-then (tried reads c numbers t x) (λ v. tries reads c numbers v xs) u e in
+      let p = tried-has reads c numbers t x is in
+      let there : v .walk ≡ stepAt reads numbers w x = sym (ap (λ (y : Trying). y .walk) (p .is)) in
+      let rest = subst (λ (y : Walk). respread xs (pass reads numbers y xs) ≡ pass reads numbers y xs) there (spread-back v xs more) in
+      spread-one c (numbers (suc (w .names))) w (x .at) xs rest (x .says) (valueAt reads numbers w x) (p .fine)

@@ -9,6 +9,7 @@ use Rattle.refusals.specs.Says.{saysAt}
 use Rattle.refusals.specs.declared.OutcomeAt as O
 use Rattle.refusals.specs.declared.OutcomeAt.the-variants as outcome
 use Rattle.refusals.proofs.Never.{never}
+use Rattle.refusals.proofs.Answers.{fault-is}
 use Rattle.symbols.specs.declared.SymbolTable.{SymbolTable}
 use Rattle.form.specs.Form.{maxTape}
 use Rattle.form.specs.Statements.{What, Instruction, Open, Close, Label, Constant, SetPlace, Byte, Word, Screen, Statement, statements}
@@ -17,13 +18,6 @@ use Rattle.names.specs.Names.{left, namesOf, declareOf}
 use Rattle.names.proofs.Kept.{declared-count}
 use Rattle.walk.specs.Walk.{namesIn}
 use Rattle.walk.specs.Values.{declarations}
-
--- two faults that are equal, of whatever else might have been given
-pub fault-is : {A B : Type 0} {m at n i : ℕ} → _≡_ {A = AnswerAt A} (Fault m at) (Fault n i) → _≡_ {A = AnswerAt B} (Fault m at) (Fault n i)
-fault-is {m = m} {at} {n} {i} e =
-    let number : m ≡ n = cc in
-    let place : at ≡ i = cc in
-    λ j. Fault (number j) (place j)
 
 -- ---- what the names answer
 

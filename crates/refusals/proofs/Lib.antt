@@ -3,4 +3,5 @@ pub mod Unique
 pub mod One
 pub mod Never
 pub mod Pick
+pub mod Answers
 pub mod Memory

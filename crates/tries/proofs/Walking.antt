@@ -20,12 +20,13 @@ use Rattle.segment.proofs.Kept.{set-pc-place, emit-has}
 use Rattle.tape.specs.Record.{bytesAt}
 use Rattle.tape.proofs.Records.{record-end}
 use Rattle.form.specs.Form.{declares}
-use Rattle.form.specs.Statements.{What, Instruction, Open, Close, Label, Constant, SetPlace, Byte, Word, Screen, whatOf, isInner, isLast, statementOf, statements, statementsAt, placed}
+use Rattle.form.specs.Statements.{What, Instruction, Open, Close, Label, Constant, SetPlace, Byte, Word, Screen, whatOf, isInner, isLast}
+use Rattle.form.specs.Statements.{statementOf, statements, statementsAt}
 use Rattle.form.proofs.Statements.{not-empty, statements-past, statements-last, statements-inner, statements-one}
 use Rattle.evaluator.specs.Expression.{Value}
 use Rattle.walk.specs.declared.Walk.{Walk}
 use Rattle.walk.specs.Walk.{origin, walk, here, lengthIn, placeAfter, namesIn, step}
-use Rattle.walk.specs.Values.{numberOf, valueAt, stepAt}
+use Rattle.walk.specs.Values.{numberOf, valueAt}
 use Rattle.walk.specs.Numbers.{readsNoted}
 use Rattle.walk.proofs.Records.{names-said, moved-most}
 use Rattle.tries.specs.declared.Compares.{Compares}
@@ -34,6 +35,7 @@ use Rattle.tries.specs.Tries.{Page, page, drawn, Trying, trying, start, 
 use Rattle.tries.specs.Write.{rangeOf, imageOr}
 use Rattle.tries.specs.Steps.{saysStepped, steppedBy, triedOver}
 use Rattle.tries.proofs.Lengths.{try-length}
+use Rattle.tries.proofs.Passed.{tried-has}
 
 -- ---- the place stays in the image
 
@@ -79,25 +81,13 @@ module _ (reads : (ℕ → Option ℤ) → ℤ → ℕ → Value) (c : Compares)
 
   tried-low : (t : Trying) (at : ℕ) (r : List ℕ) (u : Trying) → t .walk .place ≤ 65536
       → tried reads c numbers t (statementOf at r) ≡ Fine u → Low t u
-  unfolding tried tryAt step
-  tried-low t at r u h e = go (tryAt reads c numbers (t .walk) (statementOf at r)) refl e
-    where
-      landed : (bs : List ℕ) → tryAt reads c numbers (t .walk) (statementOf at r) ≡ Fine bs
-          → (a : Answer Page) → drawn (t .page) (t .walk .place) bs ≡ a
-          → At.mapped (λ p. trying (stepAt reads numbers (t .walk) (statementOf at r)) p) (placed at a) ≡ Fine u → Low t u
-      landed bs is (Done q) on k =
-          let v = valueAt reads numbers (t .walk) (statementOf at r) in
-          let long = try-length c (numbers (suc (t .walk .names))) (here (t .walk)) at (whatOf r) v bs is in
-          let room = drawn-low (t .page) (t .walk .place) bs q on h in
-          let p : trying (stepAt reads numbers (t .walk) (statementOf at r)) q ≡ u = cc in
-          subst (Low t) p (place-low (whatOf r) (numberOf v) (t .walk .place) h (omega (arith, long, room)), names-low r (t .walk .names))
-      landed bs is (Refused n) on k = never (cc)
-
-      go : (y : AnswerAt (List ℕ)) → tryAt reads c numbers (t .walk) (statementOf at r) ≡ y
-          → andThen y (λ bs. At.mapped (λ p. trying (stepAt reads numbers (t .walk) (statementOf at r)) p)
-          (placed at (drawn (t .page) (t .walk .place) bs))) ≡ Fine u → Low t u
-      go (Fine bs) is k = landed bs is (drawn (t .page) (t .walk .place) bs) refl k
-      go (Fault n i) is k = never (cc)
+  unfolding tryAt step
+  tried-low t at r u h e =
+      let p = tried-has reads c numbers t (statementOf at r) e in
+      let v = valueAt reads numbers (t .walk) (statementOf at r) in
+      let long = try-length c (numbers (suc (t .walk .names))) (here (t .walk)) at (whatOf r) v (p .bytes) (p .fine) in
+      let room = drawn-low (t .page) (t .walk .place) (p .bytes) (p .page) (p .draws) h in
+      subst (Low t) (p .is) (place-low (whatOf r) (numberOf v) (t .walk .place) h (omega (arith, long, room)), names-low r (t .walk .names))
 
   pub over-low : (t : Trying) (at : ℕ) (r : List ℕ) (u : Trying) → t .walk .place ≤ 65536 → triedOver reads c numbers t at r ≡ Fine u → Low t u
   unfolding triedOver

@@ -1,14 +1,16 @@
--- The names from a record on. Assumes nothing.
-use mathlib.Core.Bool.{Bool, true, false}
+-- The names from a record on, and that there is room for them. Assumes nothing.
+use mathlib.Core.Bool.{Bool, true, false, true≢false}
 use mathlib.Core.List.{List}
-use mathlib.Core.Path.{_≡_, refl, ap, _∙_}
-use Prim.Native.Nat.{ℕ, _+_}
+use mathlib.Core.Path.{_≡_, refl, sym, ap, _∙_}
+use Prim.Native.Nat.{ℕ, _+_, _<_}
 use native.Mathlib.Omega.{arith}
 use lib.ListN.{length, getD}
 use Rattle.refusals.specs.Answer.{pick}
+use Rattle.symbols.specs.Edges.{maxNodes}
 use Rattle.tape.specs.Record.{bytesAt}
-use Rattle.form.specs.Form.{declares}
+use Rattle.form.specs.Form.{declares, isNumbered}
 use Rattle.form.specs.Statements.{isInner, isLast, statementsAt}
+use Rattle.form.proofs.Said.{numbered-declares}
 use Rattle.form.proofs.Statements.{statements-inner, statements-one}
 use Rattle.walk.specs.Values.{declarations}
 use Rattle.walk.proofs.Records.{names-said, inner-none}
@@ -31,3 +33,12 @@ module _ (tape : List ℕ) (at : ℕ) where
       go false i =
           ap declarations (statements-one tape at more i)
           ∙ ap (λ (n : ℕ). n + declarations (statementsAt tape next)) (omega (arith, names-said here (getD here 0 0) refl 0))
+
+-- where those from here on have room among 1,024 nodes, one that has a number has room
+pub numbered-free : (k names rest : ℕ) {all : ℕ} → all ≡ pick (declares k) 1 0 + rest → names + all < maxNodes → isNumbered k ≡ true
+    → names + 1 < maxNodes
+numbered-free k names rest {all} is room e = go (declares k) (numbered-declares k) is
+  where
+    go : (d : Bool) → (d ≡ false → isNumbered k ≡ false) → all ≡ pick d 1 0 + rest → names + 1 < maxNodes
+    go true h a = omega (arith, room, a)
+    go false h a = absurd (true≢false (sym e ∙ h refl))

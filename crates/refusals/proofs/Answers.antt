@@ -1,17 +1,31 @@
 -- What an answer that came through says of the calls that it came from. Assumes nothing.
 use mathlib.Core.Bool.{Bool, true, false}
-use mathlib.Core.Path.{_≡_, refl}
+use mathlib.Core.Path.{_≡_, refl, ap}
 use Prim.Native.Nat.{ℕ}
 use Rattle.refusals.specs.Answer as Plain
 use Rattle.refusals.specs.Answer.{Answer, Done, Refused, pick}
-use Rattle.refusals.specs.AnswerAt.{AnswerAt, Fine, Fault, mapped, andThen}
+use Rattle.refusals.specs.AnswerAt.{AnswerAt, Fine, Fault, andThen}
 use Rattle.refusals.proofs.Never.{never}
-use Rattle.form.specs.Statements.{placed}
 
 -- it passed its test
 pub fine-passed : {A : Type 0} (t : Bool) (a : AnswerAt A) (n at : ℕ) {x : A} → pick t a (Fault n at) ≡ Fine x → (t ≡ true) × (a ≡ Fine x)
 fine-passed true a n at e = (refl, e)
 fine-passed false a n at e = never (cc)
+
+abbrev fineOr : {A : Type 0} → A → AnswerAt A → A
+fineOr b (Fine a) = a
+fineOr b (Fault n at) = b
+
+-- its value is one
+pub fine-value : {A : Type 0} {a b : A} → Fine a ≡ Fine b → a ≡ b
+fine-value {a = a} e = ap (fineOr a) e
+
+-- and so is a fault, whatever else might have been given
+pub fault-is : {A B : Type 0} {m at n i : ℕ} → _≡_ {A = AnswerAt A} (Fault m at) (Fault n i) → _≡_ {A = AnswerAt B} (Fault m at) (Fault n i)
+fault-is {m = m} {at} {n} {i} e =
+    let number : m ≡ n = cc in
+    let place : at ≡ i = cc in
+    λ j. Fault (number j) (place j)
 
 module _ {A B : Type 0} where
   -- both of two calls were fine
@@ -27,8 +41,3 @@ module _ {A B : Type 0} where
   pub done-mapped : (f : A → B) (a : Answer A) (v : B) → Plain.mapped f a ≡ Done v → (u : A) × (a ≡ Done u) × (f u ≡ v)
   done-mapped f (Done u) v e = (u, refl, cc)
   done-mapped f (Refused n) v e = never (cc)
-
-  -- also at an offset
-  pub fine-placed : (f : A → B) (at : ℕ) (a : Answer A) (v : B) → mapped f (placed at a) ≡ Fine v → (u : A) × (a ≡ Done u) × (f u ≡ v)
-  fine-placed f at (Done u) v e = (u, refl, cc)
-  fine-placed f at (Refused n) v e = never (cc)
