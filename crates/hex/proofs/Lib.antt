@@ -1,2 +1,2 @@
--- The public call allows one answer.
+-- Each public call allows one answer.
 pub mod Unique

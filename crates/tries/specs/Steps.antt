@@ -22,8 +22,6 @@ use Rattle.walk.specs.declared.Walk.{Walk}
 use Rattle.walk.specs.Walk.{walk, movedTo}
 use Rattle.walk.specs.Values.{numberOf}
 use Rattle.tries.specs.declared.Compares.{Compares}
-use Rattle.tries.specs.declared.Tried as T
-use Rattle.tries.specs.declared.Tried.the-variants as cases
 use Rattle.tries.specs.declared.Stepped.{Stepped}
 use Rattle.tries.specs.Tries.{Page, page, Trying, trying, tried}
 
@@ -32,10 +30,6 @@ use Rattle.tries.specs.Tries.{Page, page, Trying, trying, tried}
 -- the bytes of a code
 abbrev pub bytesIn : Code → List ℕ
 bytesIn c = take (c .len) (c .b0 ∷ c .b1 ∷ c .b2 ∷ [])
-
-abbrev pub saysTried : T.Tried → AnswerAt Code
-saysTried (cases.Bytes c) = Fine c
-saysTried (cases.Refused n at) = Fault n at
 
 -- ---- what is written
 

@@ -1,4 +1,4 @@
--- The public call of this crate. Assumes nothing: these are definitions.
+-- The public calls of this crate. Assumes nothing: these are definitions.
 use Prim.Native.Nat.{ℕ}
 use mathlib.Core.Bool.{Bool, _&&_}
 use mathlib.Core.List.{List}
@@ -7,6 +7,7 @@ use lib.ListN.{length}
 use Rattle.refusals.specs.Answer.{pick}
 use Rattle.refusals.specs.AnswerAt.{AnswerAt, Fine, Fault}
 use Rattle.refusals.specs.Table.{argument}
+use Rattle.opcodes.specs.declared.Code.{Code}
 use Rattle.segment.specs.Segment.{size}
 use Rattle.form.specs.Form.{maxTape}
 use Rattle.form.specs.Statements.{statements}
@@ -14,9 +15,19 @@ use Rattle.walk.specs.declared.Numbers.{Numbers}
 use Rattle.walk.specs.Walk.{origin}
 use Rattle.walk.specs.Numbers.{numbersIn, readsNoted}
 use Rattle.tries.specs.declared.Compares.{Compares}
+use Rattle.tries.specs.declared.Tried as T
+use Rattle.tries.specs.declared.Tried.the-variants as cases
 use Rattle.tries.specs.declared.Written as W
 use Rattle.tries.specs.declared.Written.the-variants as written
 use Rattle.tries.specs.Tries.{Trying, start, tries}
+
+-- ---- one statement
+
+abbrev pub saysTried : T.Tried → AnswerAt Code
+saysTried (cases.Bytes c) = Fine c
+saysTried (cases.Refused n at) = Fault n at
+
+-- ---- all of a tape
 
 -- a tape of up to 65,536 bytes, an initial place of at most 65,536, an image of 65,536 bytes
 unfoldable pub isAllowed : List ℕ → ℕ → ℕ → Bool

@@ -44,8 +44,8 @@ ghost use Rattle.walk.specs.Numbers.{numbersIn, readsNoted};
 ghost use Rattle.walk.specs.Walk.{origin, isPlace};
 ghost use Rattle.tries.specs.Try.{compared, instructionOf, tryOf};
 ghost use Rattle.tries.specs.Tries.{page, drawn, trying, start, tries};
-ghost use Rattle.tries.specs.Write.{writeOf, rangeOf, saysWritten, imageOr};
-ghost use Rattle.tries.specs.Steps.{bytesIn, saysTried, saysDrawn, saysStepped, placeBehind, walkBehind, triedOver};
+ghost use Rattle.tries.specs.Write.{writeOf, rangeOf, saysWritten, imageOr, saysTried};
+ghost use Rattle.tries.specs.Steps.{bytesIn, saysDrawn, saysStepped, placeBehind, walkBehind, triedOver};
 
 // How many bytes an image has; also the greatest place.
 const SIZE: usize = 65536;
@@ -63,7 +63,7 @@ pub enum Written {
 }
 
 // The bytes of a statement, or its refusal.
-enum Tried {
+pub enum Tried {
     Bytes(Code),
     Refused { number: u8, at: usize },
 }
@@ -346,8 +346,15 @@ fn place_behind(kind: u8, value: Value, place: usize, len: usize) -> usize
     place + len
 }
 
-// A statement, tried.
-fn attempt(compares: Compares, own: Data, place: i64, rec: &[u8], at: usize, value: Value) -> Tried
+// A statement with the offset `at`, tried at a place: its expression comes to `value`, and its name has the number `own` in the list.
+pub fn attempt(
+    compares: Compares,
+    own: Data,
+    place: i64,
+    rec: &[u8],
+    at: usize,
+    value: Value,
+) -> Tried
     ensures { λ r. ⌜ saysTried r ≡ At.mapped code (tryOf compares (saysData own) place at (whatOf (now (rec .entry))) (saysValue value)) ⌝ }
 {
     if !form::is_followed(rec) {

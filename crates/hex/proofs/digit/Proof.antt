@@ -1,4 +1,4 @@
--- `hex::digit` meets its contract. Assumes nothing.
+-- A digit below ten, and one above. Assumes nothing.
 use borrow.Author.Tests.{lt-ltb, le-ltb}
 use borrow.Author.Needs.{needs}
 use Rattle.hex.proofs.digit.Statement.{statement}

@@ -8,7 +8,7 @@ use denote.Ref.{now}
 use Rattle.symbols.specs.Says.{saysData}
 use Rattle.evaluator.specs.Says.{saysValue}
 use Rattle.walk.specs.Numbers.{numbersIn}
-use Rattle.tries.specs.Steps.{saysTried}
+use Rattle.tries.specs.Write.{saysTried}
 use Rattle.tries.proofs.Advancing.{Handed, over-inner, over-refused, over-short, over-put}
 use borrow.Author.Needs.{needs}
 use Rattle.tries.proofs.advance.Statement.{statement}
