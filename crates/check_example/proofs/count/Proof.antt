@@ -1,8 +1,8 @@
 -- `count` is safe and ends: each turn leaves fewer values. Nothing has to hold from turn to turn. Assumes nothing.
 use Prim.Native.Nat.{_-_}
 use native.Mathlib.Omega.{arith}
-use Rattle.check_cases.proofs.example.count.Statement.{statement}
-use Rattle.check_cases.proofs.example.count.Tie as tie
+use Rattle.check_example.proofs.count.Statement.{statement}
+use Rattle.check_example.proofs.count.Tie as tie
 
 abbrev Inv-loop : tie.InvT-loop
 Inv-loop index tally₀ value₀ tally value = Unit {0}
@@ -16,8 +16,8 @@ loop-holds c = tt
 low-requires : tie.Need-low-requires Inv-loop μ-loop
 low-requires c κs = tt
 
-answer-requires : tie.Need-answer-requires Inv-loop μ-loop
-answer-requires c κs = tt
+changed-requires : tie.Need-changed-requires Inv-loop μ-loop
+changed-requires c κs = tt
 
 counted-requires : tie.Need-counted-requires Inv-loop μ-loop
 counted-requires c κs = tt
@@ -42,7 +42,7 @@ count-spec =
     μ-loop
     loop-holds
     low-requires
-    answer-requires
+    changed-requires
     counted-requires
     add-value
     loop-less
