@@ -27,18 +27,18 @@ use Rattle.tries.proofs.Lengths.{try-length, try-short, behind-step}
 
 -- ---- bytes, handed over as a code
 
-bytes-code : (bs : List ℕ) → length bs ≤ 3 → bytesIn (code bs) ≡ bs
+pub bytes-code : (bs : List ℕ) → length bs ≤ 3 → bytesIn (code bs) ≡ bs
 bytes-code [] h = refl
 bytes-code (a ∷ []) h = refl
 bytes-code (a ∷ b ∷ []) h = refl
 bytes-code (a ∷ b ∷ d ∷ []) h = refl
 bytes-code (a ∷ b ∷ d ∷ e ∷ bs) h = absurd (omega arith)
 
-fine-code : (y : AnswerAt (List ℕ)) (k : Code) → Fine k ≡ At.mapped code y → (y ≡ Fine (part y)) × (k ≡ code (part y))
+pub fine-code : (y : AnswerAt (List ℕ)) (k : Code) → Fine k ≡ At.mapped code y → (y ≡ Fine (part y)) × (k ≡ code (part y))
 fine-code (Fine bs) k e = (refl, cc)
 fine-code (Fault n i) k e = never (cc)
 
-fault-code : (y : AnswerAt (List ℕ)) (n i : ℕ) → Fault n i ≡ At.mapped code y → y ≡ Fault n i
+pub fault-code : (y : AnswerAt (List ℕ)) (n i : ℕ) → Fault n i ≡ At.mapped code y → y ≡ Fault n i
 fault-code (Fine bs) n i e = never (cc)
 fault-code (Fault m j) n i e = cc
 

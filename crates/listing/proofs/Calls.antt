@@ -1,0 +1,46 @@
+-- What a listing says and leaves, for each way out of the call. Assumes nothing.
+use mathlib.Core.List.{List}
+use mathlib.Core.Path.{_≡_, _∙_}
+use Prim.Native.Nat.{ℕ, _≤_, _<_}
+use native.Mathlib.Omega.{arith}
+use lib.ListN.{length}
+use borrow.Author.Tests.{eq-eqb, ne-eqb, le-leb, lt-leb}
+use Rattle.refusals.specs.Answer.{Done, Refused}
+use Rattle.refusals.specs.Memory.{over}
+use Rattle.refusals.specs.Table.{argument}
+use Rattle.refusals.proofs.Pick.{at-true, at-false}
+use Rattle.walk.specs.Walk.{origin}
+use Rattle.listing.specs.Text.{refusedLine}
+use Rattle.listing.specs.Listing.{listed}
+use Rattle.listing.specs.Call.{said, listing, listOf}
+use Rattle.listing.specs.Steps.{Puts}
+
+-- ---- the arguments
+
+module _ (tape : List ℕ) (initial : ℕ) where
+  pub too-long : 65536 < length tape → refusedLine argument 0 ≡ listing tape initial
+  unfolding listing
+  too-long l = rw (lt-leb (length tape) 65536 l)
+
+  module _ (fits : length tape ≤ 65536) where
+    pub too-high : 65536 < initial → refusedLine argument 0 ≡ listing tape initial
+    unfolding listing
+    too-high l = rw (le-leb (length tape) 65536 fits, lt-leb initial 65536 l)
+
+    pub allowed : initial ≤ 65536 → said (listed tape (origin initial)) ≡ listing tape initial
+    unfolding listing
+    allowed low = rw (le-leb (length tape) 65536 fits, le-leb initial 65536 low)
+
+  -- ---- the call
+
+  module _ (text : List ℕ) where
+    pub other-length : (length text ≡ 1310740 → ⊥) → (Refused argument, text) ≡ listOf tape initial text
+    unfolding listOf
+    other-length d = at-false (Done (length (listing tape initial)), over text 0 (listing tape initial)) _ (ne-eqb (length text) 1310740 d)
+
+    pub that-length : length text ≡ 1310740 → {text′ : List ℕ} {end : ℕ} → Puts text 0 (listing tape initial) text′ end
+        → (Done end, text′) ≡ listOf tape initial text
+    unfolding listOf
+    that-length e {text′} {end} (p, q) =
+        let long : end ≡ length (listing tape initial) = omega (arith, q) in
+        (λ i. (Done (long i), p i)) ∙ at-true _ (Refused argument, text) (eq-eqb (length text) 1310740 e)
