@@ -1,4 +1,4 @@
-# What compare and assemblers share. Read by them, not run.
+# What compare, assemblers and storm/run share. Read by them, not run.
 
 here=$(cd "$(dirname "${BASH_SOURCE[0]}")" && pwd -P)
 root=$(dirname "$here")

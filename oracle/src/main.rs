@@ -2,8 +2,8 @@
 //!
 //! `oracle ask KIND` writes every question of a kind, `oracle sample KIND` the few that are stored
 //! beside the replay programs, and `oracle answer KIND` reads questions from standard input and
-//! prints a line for each. README.md has the form of the questions. A new kind is a file in kinds/
-//! and a line in `kinds::all`.
+//! prints a line for each. `oracle tapes COUNT` writes tapes for `storm/`, and `oracle tapes short` every short one. README.md has the form of
+//! the questions. A new kind is a file in kinds/ and a line in `kinds::all`.
 
 mod kinds;
 mod random;
@@ -21,7 +21,9 @@ fn main() -> io::Result<()> {
         ["ask", name] => write_questions((find(name).ask)()),
         ["sample", name] => write_questions((find(name).sample)()),
         ["answer", name] => answer_questions(find(name)),
-        _ => fail("usage: oracle kinds | ask KIND | sample KIND | answer KIND"),
+        ["tapes", "short"] => write_questions(kinds::short_tapes()),
+        ["tapes", count] => write_questions(kinds::tapes(number(count))),
+        _ => fail("usage: oracle kinds | ask KIND | sample KIND | answer KIND | tapes COUNT | tapes short"),
     }
 }
 
@@ -29,6 +31,14 @@ fn main() -> io::Result<()> {
 fn fail(message: &str) -> ! {
     eprintln!("oracle: {message}");
     std::process::exit(2)
+}
+
+// The number that a word is.
+fn number(word: &str) -> usize {
+    match word.parse() {
+        Ok(number) => number,
+        Err(_) => fail(&format!("{word} is no number")),
+    }
 }
 
 // The kind of this name.

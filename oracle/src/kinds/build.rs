@@ -17,7 +17,7 @@
 //! behind `:`, and behind another `:` a checksum of the whole image.
 
 pub(super) mod program;
-mod scripts;
+pub(super) mod scripts;
 pub(super) mod walks;
 
 use super::form::{self, Fault, Rows};
@@ -30,7 +30,7 @@ const MORE: u8 = 0;
 const BUILD: u8 = 1;
 
 // The bytes of a question, and those of a tape in it.
-const WIDTH: usize = 64;
+pub(super) const WIDTH: usize = 64;
 const PART: usize = 58;
 
 /// How many bytes an image has; also the last place.
@@ -83,30 +83,30 @@ fn read(question: &[u8]) -> Question<'_> {
     }
 }
 
-// The tape is kept.
+// The line of a build.
 fn answerer() -> Answerer {
-    let rows = form::rows();
-    let mut tape = vec![];
-    Box::new(move |question| answer(&rows, &mut tape, read(question)))
+    answerer_by(|rows, tape, initial| line(build(rows, tape, initial)))
 }
 
-// The answer's line.
-fn answer(rows: &Rows, tape: &mut Vec<u8>, question: Question) -> String {
-    match question {
+// The tape is kept, and answered by a line of its own.
+pub(super) fn answerer_by(line: fn(&Rows, &[u8], usize) -> String) -> Answerer {
+    let rows = form::rows();
+    let mut tape = vec![];
+    Box::new(move |question| match read(question) {
         More(times, part) => {
             tape.extend(part.repeat(times as usize));
             "done".into()
         }
         Build(initial, part) => {
             tape.extend(part);
-            let tape = std::mem::take(tape);
-            line(build(rows, &tape, initial as usize))
+            let tape = std::mem::take(&mut tape);
+            line(&rows, &tape, initial as usize)
         }
-    }
+    })
 }
 
 // Arguments, form, names, passes, tries: in that order.
-fn build(rows: &Rows, tape: &[u8], initial: usize) -> Result<Built, Fault> {
+pub(super) fn build(rows: &Rows, tape: &[u8], initial: usize) -> Result<Built, Fault> {
     if initial > SIZE {
         return Err(Fault::new(ARGUMENT, 0));
     }
@@ -144,7 +144,7 @@ fn line(built: Result<Built, Fault>) -> String {
 }
 
 // A number that depends on every byte and on their order.
-fn checksum(bytes: &[u8]) -> u64 {
+pub(super) fn checksum(bytes: &[u8]) -> u64 {
     let mixed = |sum: u64, byte: &u8| FACTOR * (sum % DIVISOR) + u64::from(*byte) + 1;
     bytes.iter().fold(0, mixed)
 }

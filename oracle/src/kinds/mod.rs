@@ -1,5 +1,5 @@
 //! The kinds of question: one for each module of mos that is asked, and for its evaluator a second,
-//! expressions; and decode, branch, form, build and check, which the port adds.
+//! expressions; and decode, branch, form, build, check and listing, which the port adds.
 
 mod branch;
 mod build;
@@ -8,6 +8,7 @@ mod decode;
 mod evaluator;
 mod expressions;
 mod form;
+mod listing;
 mod opcodes;
 mod program_counter;
 mod segment;
@@ -48,8 +49,19 @@ pub fn all() -> Vec<Kind> {
         form::kind(),
         build::kind(),
         check::kind(),
+        listing::kind(),
         text_encoding::kind(),
     ]
+}
+
+// So many tapes for the storm, each behind its length and its initial place.
+pub fn tapes(count: usize) -> Vec<u8> {
+    build::scripts::storm::framed(count)
+}
+
+// Every short tape of sound form, in the same way.
+pub fn short_tapes() -> Vec<u8> {
+    build::scripts::short::framed()
 }
 
 // The little-endian number in the eight bytes from an offset on.

@@ -119,6 +119,11 @@ fn answer(question: &[u8]) -> String {
     or_refused(bytes.map(|bytes| hex(&bytes)))
 }
 
+// The letters of a mnemonic, from its name in mos.
+pub fn letters(mnemonic: u8) -> String {
+    format!("{:?}", MNEMONICS[mnemonic as usize]).to_uppercase()
+}
+
 // Asks the Rust; nothing is returned if it refuses.
 pub fn encode(row: [u8; 3], operand: i64) -> Option<Vec<u8>> {
     let bytes = get_opcode_bytes(

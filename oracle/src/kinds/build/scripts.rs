@@ -1,6 +1,9 @@
 //! The tapes that are built: cases by hand, full tables, the longest tapes, and random ones with few
 //! names and small places, some of them damaged.
 
+pub mod short;
+pub mod storm;
+
 use super::super::expressions::records::*;
 use super::super::{any, form, one_of};
 use super::program::Path;
@@ -54,6 +57,15 @@ pub fn sample() -> Vec<u8> {
     script.put_cases();
     script.put_full();
     script.put_random(SAMPLE_RANDOM);
+    script.out
+}
+
+// Some tapes, each with its initial place.
+pub fn these(tapes: &[(usize, Vec<u8>)]) -> Vec<u8> {
+    let mut script = Script::new();
+    for (initial, tape) in tapes {
+        script.tell(*initial, tape);
+    }
     script.out
 }
 

@@ -87,14 +87,20 @@ fn length(row: [u8; 3], operand: Option<i64>) -> i64 {
     bytes.map_or(0, |bytes| bytes.len() as i64)
 }
 
-// Tries each line in tape order. The image, and the range that was written.
-pub fn write(
-    program: &Program,
+/// The bytes that a line writes, and where.
+pub struct Write<'a> {
+    pub line: &'a Line,
+    pub place: usize,
+    pub bytes: Vec<u8>,
+}
+
+// Tries each line in tape order. What is written, in that order.
+pub fn writes<'a>(
+    program: &'a Program,
     numbers: &Numbers,
     initial: usize,
-) -> Result<(Range<usize>, Vec<u8>), Fault> {
-    let mut image = vec![0; SIZE];
-    let mut written: Option<Range<usize>> = None;
+) -> Result<Vec<Write<'a>>, Fault> {
+    let mut writes = vec![];
     let mut place = initial;
     for line in &program.lines {
         let tried = program.attempt(numbers, line, place as i64);
@@ -106,14 +112,29 @@ pub fn write(
                 if end > SIZE {
                     return Err(Fault::new(OUTSIDE, line.at));
                 }
-                image[place..end].copy_from_slice(&bytes);
-                written = Some(match written {
-                    None => place..end,
-                    Some(range) => range.start.min(place)..range.end.max(end),
-                });
+                writes.push(Write { line, place, bytes });
                 place = end;
             }
         }
+    }
+    Ok(writes)
+}
+
+// The image of what is written, and the range.
+pub fn write(
+    program: &Program,
+    numbers: &Numbers,
+    initial: usize,
+) -> Result<(Range<usize>, Vec<u8>), Fault> {
+    let mut image = vec![0; SIZE];
+    let mut written: Option<Range<usize>> = None;
+    for Write { place, bytes, .. } in writes(program, numbers, initial)? {
+        let end = place + bytes.len();
+        image[place..end].copy_from_slice(&bytes);
+        written = Some(match written {
+            None => place..end,
+            Some(range) => range.start.min(place)..range.end.max(end),
+        });
     }
     Ok((written.unwrap_or(initial..initial), image))
 }
