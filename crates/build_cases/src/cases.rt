@@ -1,5 +1,4 @@
 // Cases of passes, places and names. Tapes are written as in document 01, with a stroke between two records.
-use crate::page;
 use crate::show;
 use tape::CONSTANT;
 use tape::END;

@@ -3,7 +3,6 @@
 // stand, the first and the last do. The expected answers stand in stdout, and were written from document 01.
 mod cases;
 mod memory;
-mod page;
 mod refused;
 mod show;
 

@@ -1,5 +1,4 @@
 // What a build leaves in the memory that it is lent, and which lengths it takes.
-use crate::page;
 use crate::show;
 use symbols::NODES;
 use tape::END;

@@ -1,6 +1,5 @@
 // Every number that a build refuses with, and the smallest tape found that has it. 4, 17 and 18 are other calls', and 13 is never
 // given: in the last walk every label is where the last pass has put it. Some lines show what is just allowed.
-use crate::page;
 use crate::show;
 use tape::BYTE;
 use tape::CURRENT_PLACE;

@@ -1,5 +1,4 @@
 // How answers are printed.
-use crate::page;
 use builder::Built;
 use libc::STDOUT_FILENO;
 use symbols::NODES;

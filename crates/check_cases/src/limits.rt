@@ -1,5 +1,4 @@
 // Cases at the limits: arguments that are just allowed, and beyond; and the largest tapes, built first.
-use crate::page;
 use crate::show;
 use crate::show::refused;
 use checker::Checked;

@@ -2,7 +2,6 @@
 // case comes with the answer that document 01 has for it, and one that is answered otherwise says WRONG.
 mod limits;
 mod numbers;
-mod page;
 mod places;
 mod show;
 

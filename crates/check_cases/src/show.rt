@@ -1,5 +1,4 @@
 // How answers are printed, and compared with document 01's.
-use crate::page;
 use builder::Built;
 use checker::Checked;
 use libc::STDOUT_FILENO;

@@ -1,0 +1,90 @@
+// How cases are printed.
+use crate::part;
+use libc::STDOUT_FILENO;
+use listing::Listed;
+
+// Where a tape is built, unless a case says otherwise.
+pub const INITIAL: usize = 0x2000;
+
+// How many bytes of a tape are printed at most.
+const MOST: usize = 16;
+
+// Prints some words.
+pub fn print(words: &[u8]) {
+    io::write_all(STDOUT_FILENO, words);
+}
+
+// Prints a number in decimal.
+pub fn print_decimal(n: usize) {
+    io::print_decimal(STDOUT_FILENO, n as u64);
+}
+
+// Prints a byte in hexadecimal.
+fn print_byte(byte: u8) {
+    print(&hex::capital(byte));
+}
+
+// Prints each of some bytes, a blank before each.
+fn print_each(bytes: &[u8]) {
+    let mut i = 0;
+    while i < bytes.len() {
+        print(b" ");
+        print_byte(bytes[i]);
+        i += 1;
+    }
+}
+
+// Prints the bytes of a tape, or how many there are.
+fn print_tape(tape: &[u8]) {
+    let count = tape.len();
+    if count == 0 {
+        return print(b" no bytes");
+    }
+    if count <= MOST {
+        return print_each(tape);
+    }
+    print(b" ");
+    print_decimal(count);
+    print(b" bytes");
+}
+
+// Prints the words of a case, and its tape.
+pub fn print_head(words: &[u8], tape: &[u8]) {
+    print(words);
+    print(b" |");
+    print_tape(tape);
+    print(b" |");
+}
+
+// Lists a tape into a text of the right length.
+pub fn list(room: &mut [u8], tape: &[u8], initial: usize) -> Listed {
+    listing::list(tape, initial, part::lend(room, listing::TEXT))
+}
+
+// How long the text is: nothing where there is none.
+pub fn length(listed: Listed) -> usize {
+    match listed {
+        Listed::Text(end) => end,
+        Listed::Refused(_) => 0,
+    }
+}
+
+// Prints the listing of a tape.
+fn print_listing(room: &mut [u8], tape: &[u8], initial: usize) {
+    let listed = list(room, tape, initial);
+    print(page::cut(room, length(listed)));
+}
+
+// A case whose listing is one line, which stands behind the tape.
+pub fn line(room: &mut [u8], words: &[u8], tape: &[u8], initial: usize) {
+    print_head(words, tape);
+    print(b" ");
+    print_listing(room, tape, initial);
+}
+
+// A case whose listing has several lines, which stand below.
+pub fn lines(room: &mut [u8], words: &[u8], tape: &[u8], initial: usize) {
+    print_head(words, tape);
+    print(b"\n");
+    print_listing(room, tape, initial);
+}
