@@ -1,4 +1,4 @@
-# What compare, assemblers and storm/run share. Read by them, not run.
+# What compare, assemblers, listings and storm/run share. Read by them, not run.
 
 here=$(cd "$(dirname "${BASH_SOURCE[0]}")" && pwd -P)
 root=$(dirname "$here")

@@ -2,15 +2,28 @@
 //!
 //! `oracle ask KIND` writes every question of a kind, `oracle sample KIND` the few that are stored
 //! beside the replay programs, and `oracle answer KIND` reads questions from standard input and
-//! prints a line for each. `oracle tapes COUNT` writes tapes for `storm/`, and `oracle tapes short` every short one. README.md has the form of
-//! the questions. A new kind is a file in kinds/ and a line in `kinds::all`.
+//! prints a line for each. README.md has the form of the questions. A new kind is a file in kinds/
+//! and a line in `kinds::all`.
+//!
+//! `oracle tapes COUNT` writes tapes for `storm/`, and `oracle tapes short` every short one.
+//! `oracle source ASSEMBLER` reads a tape and prints its source for ca65 or 64tass, `oracle
+//! assembly-tapes COUNT` writes random tapes, and `oracle listings ASSEMBLER PROGRAM` compares what
+//! the program lists with what the assembler makes of them.
 
+mod assembly;
 mod kinds;
+mod listings;
 mod random;
 mod refusal;
+mod source;
 
 use kinds::Kind;
+use source::Assembler;
 use std::io::{self, BufWriter, Read, Write};
+
+const USAGE: &str = "usage: oracle kinds | ask KIND | sample KIND | answer KIND \
+    | tapes COUNT | tapes short | source ASSEMBLER | assembly-tapes COUNT \
+    | listings ASSEMBLER PROGRAM";
 
 // Reads the words of the command line and does what they say.
 fn main() -> io::Result<()> {
@@ -23,7 +36,10 @@ fn main() -> io::Result<()> {
         ["answer", name] => answer_questions(find(name)),
         ["tapes", "short"] => write_questions(kinds::short_tapes()),
         ["tapes", count] => write_questions(kinds::tapes(number(count))),
-        _ => fail("usage: oracle kinds | ask KIND | sample KIND | answer KIND | tapes COUNT | tapes short"),
+        ["source", name] => source::print(assembler(name)),
+        ["assembly-tapes", count] => assembly::write(number(count)),
+        ["listings", name, program] => compare_listings(assembler(name), program),
+        _ => fail(USAGE),
     }
 }
 
@@ -46,6 +62,22 @@ fn find(name: &str) -> Kind {
     match kinds::all().into_iter().find(|kind| kind.name == name) {
         Some(kind) => kind,
         None => fail(&format!("no kind is called {name}")),
+    }
+}
+
+// The assembler of this name.
+fn assembler(name: &str) -> Assembler {
+    match Assembler::called(name) {
+        Some(assembler) => assembler,
+        None => fail(&format!("no assembler is called {name}")),
+    }
+}
+
+// Compares the listings of a program with an assembler. Ends with 1 at a difference.
+fn compare_listings(assembler: Assembler, program: &str) -> io::Result<()> {
+    match listings::compare(assembler, program)? {
+        0 => Ok(()),
+        _ => std::process::exit(1),
     }
 }
 

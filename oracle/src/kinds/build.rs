@@ -16,9 +16,9 @@
 //! An answer is `done`; or `refused N at OFFSET`; or `finished`, start, end and passes, the numbers
 //! behind `:`, and behind another `:` a checksum of the whole image.
 
-pub(super) mod program;
+pub(crate) mod program;
 pub(super) mod scripts;
-pub(super) mod walks;
+pub(crate) mod walks;
 
 use super::form::{self, Fault, Rows};
 use super::{short_at, Answerer, Kind};
@@ -34,7 +34,7 @@ pub(super) const WIDTH: usize = 64;
 const PART: usize = 58;
 
 /// How many bytes an image has; also the last place.
-pub(super) const SIZE: usize = 65_536;
+pub(crate) const SIZE: usize = 65_536;
 
 // The divisor of the checksum, a prime, and its factor.
 const DIVISOR: u64 = 4_294_967_291;

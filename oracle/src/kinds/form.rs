@@ -56,7 +56,7 @@ enum Question<'a> {
 use Question::*;
 
 /// A refusal: its number, and the offset of the record at fault.
-pub(super) struct Fault {
+pub(crate) struct Fault {
     number: u8,
     at: usize,
 }
@@ -79,7 +79,7 @@ impl fmt::Display for Fault {
 pub(super) type Behind = Result<usize, Fault>;
 
 /// The numbers of mnemonic, mode and suffix of every row.
-pub(super) type Rows = BTreeSet<[u8; 3]>;
+pub(crate) type Rows = BTreeSet<[u8; 3]>;
 
 // What the driver knows of this kind.
 pub fn kind() -> Kind {
@@ -133,7 +133,7 @@ fn answerer() -> Answerer {
 }
 
 // The rows: what the Rust has bytes for.
-pub(super) fn rows() -> Rows {
+pub(crate) fn rows() -> Rows {
     let is_row = |row: &[u8; 3]| opcodes::encode(*row, 0).is_some();
     let rows: Rows = opcodes::rows().into_iter().filter(is_row).collect();
     assert_eq!(rows.len(), ROWS, "rows");

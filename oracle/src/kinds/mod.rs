@@ -2,14 +2,14 @@
 //! expressions; and decode, branch, form, build, check and listing, which the port adds.
 
 mod branch;
-mod build;
+pub(crate) mod build;
 mod check;
 mod decode;
 mod evaluator;
-mod expressions;
-mod form;
+pub(crate) mod expressions;
+pub(crate) mod form;
 mod listing;
-mod opcodes;
+pub(crate) mod opcodes;
 mod program_counter;
 mod segment;
 mod source_map;
@@ -75,17 +75,17 @@ fn short_at(question: &[u8], offset: usize) -> u32 {
 }
 
 // Bytes as capital hexadecimal digits, with a space between two bytes.
-fn hex(bytes: &[u8]) -> String {
+pub(crate) fn hex(bytes: &[u8]) -> String {
     let digits: Vec<String> = bytes.iter().map(|byte| format!("{byte:02X}")).collect();
     digits.join(" ")
 }
 
 // A random number from low to high, both among them.
-fn any(source: &mut Random, low: u32, high: u32) -> u32 {
+pub(crate) fn any(source: &mut Random, low: u32, high: u32) -> u32 {
     source.between(low.into(), high.into()) as u32
 }
 
 // A random one of some things.
-fn one_of<T: Copy>(source: &mut Random, things: &[T]) -> T {
+pub(crate) fn one_of<T: Copy>(source: &mut Random, things: &[T]) -> T {
     things[any(source, 0, things.len() as u32 - 1) as usize]
 }

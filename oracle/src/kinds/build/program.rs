@@ -146,26 +146,26 @@ impl Program {
 }
 
 /// A tape that is read from an offset on.
-struct Reader<'a> {
-    tape: &'a [u8],
-    at: usize,
+pub(crate) struct Reader<'a> {
+    pub(crate) tape: &'a [u8],
+    pub(crate) at: usize,
 }
 
 impl Reader<'_> {
     // The next byte.
-    fn byte(&mut self) -> u8 {
+    pub(crate) fn byte(&mut self) -> u8 {
         self.at += 1;
         self.tape[self.at - 1]
     }
 
     // The next two bytes as a number.
-    fn word(&mut self) -> u16 {
+    pub(crate) fn word(&mut self) -> u16 {
         self.at += 2;
         word_at(self.tape, self.at - 2)
     }
 
     // The rest of a line that is about no name.
-    fn plain(&mut self, kind: u8) -> What {
+    pub(crate) fn plain(&mut self, kind: u8) -> What {
         match kind {
             INSTRUCTION => {
                 let row = [self.byte(), self.byte(), self.byte()];
@@ -181,7 +181,7 @@ impl Reader<'_> {
     }
 
     // An expression.
-    fn expression(&mut self) -> Expression {
+    pub(crate) fn expression(&mut self) -> Expression {
         match self.byte() {
             NUMBER => {
                 self.at += 8;

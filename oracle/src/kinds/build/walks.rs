@@ -82,7 +82,7 @@ pub fn pass(program: &Program, before: &Numbers, initial: usize) -> Numbers {
 
 // "an unresolved operand takes the two-byte form where the row has one; a row of one form always has
 // its length"
-fn length(row: [u8; 3], operand: Option<i64>) -> i64 {
+pub(crate) fn length(row: [u8; 3], operand: Option<i64>) -> i64 {
     let bytes = encode(row, operand.unwrap_or(LONG)).or_else(|| encode(row, 0));
     bytes.map_or(0, |bytes| bytes.len() as i64)
 }
