@@ -102,46 +102,18 @@ fn no_layout_found() {
 fn write_gate(tape: &mut [u8]) -> usize {
     let place = [SET_PLACE, NUMBER, PLACE, 0, 0, 0, 0, 0, 0, 0];
     let load = [INSTRUCTION, LDA, PLAIN, NONE, NAME_1, WHOLE, GATE, 0];
-    let set = put(tape, 0, &place);
-    let lda = put(tape, set, &load);
-    let gate = put(tape, lda, &[LABEL, GATE, 0]);
-    put(tape, gate, &[END])
+    let set = page::put_all(tape, 0, &place);
+    let lda = page::put_all(tape, set, &load);
+    let gate = page::put_all(tape, lda, &[LABEL, GATE, 0]);
+    page::put_all(tape, gate, &[END])
 }
 
 // Writes the second tape; how long it is.
 fn write_fare(tape: &mut [u8]) -> usize {
     let constant = [CONSTANT, FARE, 0, NAME_1, WHOLE, FARE, 0];
-    let fare = put(tape, 0, &constant);
-    let byte = put(tape, fare, &[BYTE, NAME_1, WHOLE, FARE, 0]);
-    put(tape, byte, &[END])
-}
-
-// Puts some bytes at an offset, as far as there is space; the offset behind them.
-fn put(tape: &mut [u8], from: usize, bytes: &[u8]) -> usize {
-    let mut at = from;
-    let mut i = 0;
-    while i < bytes.len() {
-        at = put_byte(tape, at, bytes[i]);
-        i += 1;
-    }
-    at
-}
-
-// One byte.
-fn put_byte(tape: &mut [u8], at: usize, byte: u8) -> usize {
-    if tape.len() <= at {
-        return at;
-    }
-    tape[at] = byte;
-    at + 1
-}
-
-// The first so many bytes, or all.
-fn first(bytes: &[u8], count: usize) -> &[u8] {
-    if bytes.len() < count {
-        return bytes;
-    }
-    &bytes[0..count]
+    let fare = page::put_all(tape, 0, &constant);
+    let byte = page::put_all(tape, fare, &[BYTE, NAME_1, WHOLE, FARE, 0]);
+    page::put_all(tape, byte, &[END])
 }
 
 // The bytes from start to end, or none.
@@ -159,7 +131,7 @@ fn covered(image: &[u8], start: usize, end: usize) -> &[u8] {
 fn build_gate() {
     let mut space = [0u8; SPACE];
     let end = write_gate(&mut space);
-    build(first(&space, end), b"gate ");
+    build(page::cut(&space, end), b"gate ");
     say(b".\n");
 }
 
@@ -167,7 +139,7 @@ fn build_gate() {
 fn build_fare() {
     let mut space = [0u8; SPACE];
     let end = write_fare(&mut space);
-    build(first(&space, end), b"fare ");
+    build(page::cut(&space, end), b"fare ");
 }
 
 // Builds a tape that has one name, and says what comes of it.
@@ -192,7 +164,7 @@ fn build(tape: &[u8], name: &[u8]) {
 fn check_gate(number: i64, bytes: &[u8]) {
     let mut space = [0u8; SPACE];
     let end = write_gate(&mut space);
-    let tape = first(&space, end);
+    let tape = page::cut(&space, end);
     say(b"Checked with ");
     say_layout(b"gate ", number, bytes);
     say_checked(checker::check(tape, INITIAL, &[number], PLACE as usize, bytes));
@@ -202,7 +174,7 @@ fn check_gate(number: i64, bytes: &[u8]) {
 fn check_fare(number: i64, byte: u8) {
     let mut space = [0u8; SPACE];
     let end = write_fare(&mut space);
-    let tape = first(&space, end);
+    let tape = page::cut(&space, end);
     say(b"Checked with ");
     say_layout(b"fare ", number, &[byte]);
     say_checked(checker::check(tape, INITIAL, &[number], INITIAL, &[byte]));

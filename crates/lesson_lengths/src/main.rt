@@ -74,7 +74,7 @@ fn shorter() {
     let mut space = [0u8; SPACE];
     let code = write_code(&mut space);
     let end = write_numbers(&mut space, code, 251);
-    let tape = first(&space, end);
+    let tape = page::cut(&space, end);
     let mut nodes = [0u16; builder::WORK];
     names::declare(tape, &mut nodes);
     say(b"A tape with 251 bytes of room.\n");
@@ -100,7 +100,7 @@ fn longer() {
     let mut space = [0u8; SPACE];
     let code = write_code(&mut space);
     let end = write_numbers(&mut space, code, 252);
-    let tape = first(&space, end);
+    let tape = page::cut(&space, end);
     let mut nodes = [0u16; builder::WORK];
     names::declare(tape, &mut nodes);
     say(b"The same tape with 252 bytes of room.\n");
@@ -128,50 +128,22 @@ fn tell_longer<'a>(tape: &'a [u8], nodes: &'a [u16]) {
 fn write_code(tape: &mut [u8]) -> usize {
     let load = [INSTRUCTION, LDA, PLAIN, NONE, NAME_1, WHOLE, TICKET, 0];
     let branch = [INSTRUCTION, BNE, PLAIN, NONE, NAME_1, WHOLE, TAP, 0];
-    let tap = put(tape, 0, &[LABEL, TAP, 0]);
-    let lda = put(tape, tap, &load);
-    let gate = put(tape, lda, &[LABEL, GATE, 0]);
-    let bne = put(tape, gate, &branch);
-    let set = put(tape, bne, &[SET_PLACE, BINARY, ADD, CURRENT_PLACE]);
-    put(tape, set, &[NAME_1, WHOLE, ROOM, 0])
+    let tap = page::put_all(tape, 0, &[LABEL, TAP, 0]);
+    let lda = page::put_all(tape, tap, &load);
+    let gate = page::put_all(tape, lda, &[LABEL, GATE, 0]);
+    let bne = page::put_all(tape, gate, &branch);
+    let set = page::put_all(tape, bne, &[SET_PLACE, BINARY, ADD, CURRENT_PLACE]);
+    page::put_all(tape, set, &[NAME_1, WHOLE, ROOM, 0])
 }
 
 // Writes the rest of it: how long the tape is.
 fn write_numbers(tape: &mut [u8], code: usize, room: u8) -> usize {
-    let ticket = put(tape, code, &[LABEL, TICKET, 0]);
-    let byte = put(tape, ticket, &[BYTE, NUMBER, 5, 0, 0, 0, 0, 0, 0, 0]);
-    let fare = put(tape, byte, &[LABEL, FARE, 0]);
-    let constant = put(tape, fare, &[CONSTANT, ROOM, 0]);
-    let number = put(tape, constant, &[NUMBER, room, 0, 0, 0, 0, 0, 0, 0]);
-    put(tape, number, &[END])
-}
-
-// Puts some bytes at an offset, as far as there is space; the offset behind them.
-fn put(tape: &mut [u8], from: usize, bytes: &[u8]) -> usize {
-    let mut at = from;
-    let mut i = 0;
-    while i < bytes.len() {
-        at = put_byte(tape, at, bytes[i]);
-        i += 1;
-    }
-    at
-}
-
-// One byte.
-fn put_byte(tape: &mut [u8], at: usize, byte: u8) -> usize {
-    if tape.len() <= at {
-        return at;
-    }
-    tape[at] = byte;
-    at + 1
-}
-
-// The first so many bytes, or all.
-fn first(bytes: &[u8], count: usize) -> &[u8] {
-    if bytes.len() < count {
-        return bytes;
-    }
-    &bytes[0..count]
+    let ticket = page::put_all(tape, code, &[LABEL, TICKET, 0]);
+    let byte = page::put_all(tape, ticket, &[BYTE, NUMBER, 5, 0, 0, 0, 0, 0, 0, 0]);
+    let fare = page::put_all(tape, byte, &[LABEL, FARE, 0]);
+    let constant = page::put_all(tape, fare, &[CONSTANT, ROOM, 0]);
+    let number = page::put_all(tape, constant, &[NUMBER, room, 0, 0, 0, 0, 0, 0, 0]);
+    page::put_all(tape, number, &[END])
 }
 
 // Before pass 1 no name has a number.

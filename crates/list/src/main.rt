@@ -22,16 +22,8 @@ fn run(tape: &mut [u8], text: &mut [u8]) {
     let length = io::read_full(STDIN_FILENO, tape);
     match listing::list(&tape[..length], INITIAL, text) {
         Listed::Refused(_) => (),
-        Listed::Text(end) => print(first(text, end)),
+        Listed::Text(end) => print(page::cut(text, end)),
     }
-}
-
-// The first so many bytes, or all.
-fn first(text: &[u8], end: usize) -> &[u8] {
-    if text.len() < end {
-        return text;
-    }
-    &text[0..end]
 }
 
 // Prints some text.

@@ -25,45 +25,25 @@ const FIRST: u64 = 0x1000_0000_0000_0000;
 
 const FOURTH: u64 = 0x1000;
 
-// Puts several bytes.
-pub fn put(line: &mut [u8], from: usize, bytes: &[u8]) -> usize {
-    let mut at = from;
-    let mut i = 0;
-    while i < bytes.len() {
-        at = put_byte(line, at, bytes[i]);
-        i += 1;
-    }
-    at
-}
-
-// Puts one byte.
-fn put_byte(line: &mut [u8], at: usize, byte: u8) -> usize {
-    if line.len() <= at {
-        return at;
-    }
-    line[at] = byte;
-    at + 1
-}
-
 // Puts a text as a cell: at the right of its width, and behind one blank at least.
 pub fn put_cell(line: &mut [u8], at: usize, text: &[u8]) -> usize {
     let spaced = put_blanks(line, at, text.len());
-    put(line, spaced, text)
+    page::put_all(line, spaced, text)
 }
 
 // Puts the blanks before a text of this length.
 fn put_blanks(line: &mut [u8], at: usize, length: usize) -> usize {
     let blanks = [b' '; BLANKS];
     if length < WIDTH {
-        return put(line, at, &blanks[length..]);
+        return page::put_all(line, at, &blanks[length..]);
     }
-    put(line, at, b" ")
+    page::put_all(line, at, b" ")
 }
 
 // Puts an id, in four hexadecimal digits and with two blanks behind it.
 pub fn put_id(line: &mut [u8], at: usize, id: u16) -> usize {
     let named = put_digits(line, at, id as u64);
-    put(line, named, b"  ")
+    page::put_all(line, named, b"  ")
 }
 
 // Puts a cell with a number in decimal.
@@ -78,13 +58,13 @@ pub fn put_hex(line: &mut [u8], at: usize, z: i64) -> usize {
     let mut text = [0u8; NUMBER];
     let signed = put_sign(&mut text, z);
     let end = put_digits(&mut text, signed, int64::size(z));
-    put_cell(line, at, first(&text, end))
+    put_cell(line, at, page::cut(&text, end))
 }
 
 // Puts the minus sign of a number that is below 0.
 fn put_sign(line: &mut [u8], z: i64) -> usize {
     if z < 0 {
-        return put(line, 0, b"-");
+        return page::put_all(line, 0, b"-");
     }
     0
 }
@@ -105,13 +85,5 @@ fn put_digit(line: &mut [u8], at: usize, quotient: u64, unit: u64) -> usize {
     if quotient == 0 && FOURTH < unit {
         return at;
     }
-    put_byte(line, at, hex::digit((quotient % 16) as u8))
-}
-
-// The first so many bytes, or all.
-pub fn first(bytes: &[u8], count: usize) -> &[u8] {
-    if bytes.len() < count {
-        return bytes;
-    }
-    &bytes[0..count]
+    page::put_all(line, at, &[hex::digit((quotient % 16) as u8)])
 }

@@ -145,7 +145,7 @@ fn kept(known: &[bool], number: &[i64], at: usize) -> Data {
 // Prints the head, which numbers the passes.
 fn print_head(count: usize) {
     let mut space = [0u8; line::LONGEST];
-    let begun = line::put(&mut space, 0, b"pass        ");
+    let begun = page::put_all(&mut space, 0, b"pass        ");
     let numbered = put_counts(&mut space, begun, count);
     print_line(&mut space, numbered);
 }
@@ -192,9 +192,9 @@ fn print_row(rec: &[u8], node: usize, count: usize, known: &[bool], number: &[i6
 // Puts what a record declares, a label or a constant.
 fn put_kind(line: &mut [u8], kind: u8) -> usize {
     if kind == LABEL {
-        return line::put(line, 0, b"label ");
+        return page::put_all(line, 0, b"label ");
     }
-    line::put(line, 0, b"const ")
+    page::put_all(line, 0, b"const ")
 }
 
 // Puts the numbers that the passes gave a node.
@@ -225,8 +225,8 @@ fn put_number(line: &mut [u8], at: usize, number: Data) -> usize {
 
 // Ends a line of so many bytes, and prints it.
 fn print_line(line: &mut [u8], length: usize) {
-    let end = line::put(line, length, b"\n");
-    print(line::first(line, end));
+    let end = page::put_all(line, length, b"\n");
+    print(page::cut(line, end));
 }
 
 // Prints the refused line.

@@ -1,5 +1,5 @@
-// Bytes that are laid one behind the other into lent memory, for programs that make tapes: each call takes the offset where it begins,
-// and gives the one behind what it laid. What has no room is left out.
+// Bytes that are laid one behind the other into lent memory, for programs that make tapes and lines: each call takes the offset where it
+// begins, and gives the one behind what it laid. What has no room is left out.
 ghost use mathlib.Core.List.{[], _∷_};
 ghost use mathlib.Core.Path.{_≡_};
 ghost use lib.ListN.{take};
