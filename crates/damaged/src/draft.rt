@@ -1,5 +1,4 @@
 // Sound expressions and tapes, made by a small generator.
-use crate::page;
 use tape::BINARY;
 use tape::BYTE;
 use tape::CLOSE_SCOPE;
@@ -104,7 +103,7 @@ fn thrown(draft: Draft) -> Draft {
 // One byte more.
 fn put(bytes: &mut [u8], draft: Draft, byte: u8) -> Draft {
     let mut longer = draft;
-    longer.at = page::put(bytes, draft.at, byte);
+    longer.at = page::put_all(bytes, draft.at, &[byte]);
     longer
 }
 

@@ -4,7 +4,6 @@ use crate::draft::IMMEDIATE;
 use crate::draft::IMPLIED;
 use crate::draft::NONE;
 use crate::draft::NOP;
-use crate::page;
 use evaluator::Evaluated;
 use libc::STDOUT_FILENO;
 use refusals::OutcomeAt;
@@ -124,7 +123,7 @@ fn lengths() {
     let mut room = [0u8; ROOM];
     let label = page::put_all(&mut room, 0, &[LABEL, 1, 0]);
     let screen = page::put_often(&mut room, label, &SCREEN, 32766);
-    page::put(&mut room, screen, END);
+    page::put_all(&mut room, screen, &[END]);
     tape(
         b"65535 bytes without an end record",
         page::cut(&room, 65535),
@@ -133,14 +132,22 @@ fn lengths() {
     tape(b"65537 bytes", &room);
 }
 
+// The bytes from an offset on, or all.
+fn behind(bytes: &[u8], at: usize) -> &[u8] {
+    if bytes.len() < at {
+        return bytes;
+    }
+    &bytes[at..]
+}
+
 // Prints the form of an expression that begins with so many flags, alone and as a byte's on a tape.
 fn flags(question: &[u8], count: usize, bottom: &[u8]) {
     let mut room = [0u8; 256];
-    let start = page::put(&mut room, 0, BYTE);
-    let behind = page::put_often(&mut room, start, &NOT, count);
-    let end = page::put_all(&mut room, behind, bottom);
-    expression(question, page::behind(page::cut(&room, end), start));
-    let ended = page::put(&mut room, end, END);
+    let start = page::put_all(&mut room, 0, &[BYTE]);
+    let flagged = page::put_often(&mut room, start, &NOT, count);
+    let end = page::put_all(&mut room, flagged, bottom);
+    expression(question, behind(page::cut(&room, end), start));
+    let ended = page::put_all(&mut room, end, &[END]);
     tape(b"  on a tape", page::cut(&room, ended));
 }
 
@@ -160,7 +167,7 @@ fn scopes(question: &[u8], opened: usize, closed: usize) {
     let mut room = [0u8; ROOM];
     let inside = page::put_often(&mut room, 0, &OPEN, opened);
     let outside = page::put_often(&mut room, inside, &[CLOSE_SCOPE], closed);
-    let end = page::put(&mut room, outside, END);
+    let end = page::put_all(&mut room, outside, &[END]);
     tape(question, page::cut(&room, end));
 }
 

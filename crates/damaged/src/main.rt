@@ -7,7 +7,6 @@
 mod draft;
 mod judge;
 mod limits;
-mod page;
 mod tally;
 mod trial;
 

@@ -2,7 +2,6 @@
 use crate::draft;
 use crate::judge;
 use crate::judge::Damage;
-use crate::page;
 use crate::tally;
 use crate::tally::Tally;
 use symbols::Data;
@@ -79,10 +78,10 @@ fn cut(trial: Trial, bytes: &[u8]) -> Trial {
 
 // Asks with another byte at an offset, and puts the old one back.
 fn change(trial: Trial, bytes: &mut [u8], at: usize, byte: u8) -> Trial {
-    let old = page::byte_at(bytes, at);
-    page::put(bytes, at, byte);
+    let old = little::u8_at(bytes, at);
+    page::put_all(bytes, at, &[byte]);
     let after = asked(trial, bytes, Damage::Changed(at));
-    page::put(bytes, at, old);
+    page::put_all(bytes, at, &[old]);
     after
 }
 
@@ -98,7 +97,7 @@ fn below(byte: u8) -> u8 {
 
 // Asks with the bytes above and below the one at an offset.
 fn change_little(trial: Trial, bytes: &mut [u8], at: usize) -> Trial {
-    let old = page::byte_at(bytes, at);
+    let old = little::u8_at(bytes, at);
     let one = change(trial, bytes, at, above(old));
     change(one, bytes, at, below(old))
 }
