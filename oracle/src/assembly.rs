@@ -5,7 +5,7 @@
 //! shift counts are small, so that no value leaves an i64; a super stands only where a path begins.
 //! Operands, bytes and words outside their range are few.
 
-use crate::kinds::build::program::Path;
+use crate::kinds::build::program::{shared, Path};
 use crate::kinds::expressions::records::*;
 use crate::kinds::{any, form, one_of};
 use crate::random::Random;
@@ -397,8 +397,7 @@ impl Maker {
 
     // A path to a name from the scope of the line.
     fn any_path(&mut self, whole: &[u16]) -> Path {
-        let alike = self.scope.iter().zip(whole).take_while(|(a, b)| a == b);
-        let shared = alike.count().min(whole.len() - 1);
+        let shared = shared(&self.scope, whole);
         let supers = vec![SUPER; self.scope.len() - shared];
         match self.source.between(0, 7) {
             0 | 1 => whole.to_vec(),

@@ -17,6 +17,12 @@ const IMPLIED: u8 = 0;
 /// The ids from the root down to a scope or a name.
 pub type Path = Vec<u16>;
 
+/// How many scopes lie around both a line in this scope and the name of this whole path.
+pub fn shared(scope: &[u16], whole: &[u16]) -> usize {
+    let alike = scope.iter().zip(whole).take_while(|(a, b)| a == b);
+    alike.count().min(whole.len() - 1)
+}
+
 /// An expression.
 pub enum Expression {
     Number(i64),

@@ -6,7 +6,7 @@ pub mod storm;
 
 use super::super::expressions::records::*;
 use super::super::{any, form, one_of};
-use super::program::Path;
+use super::program::{shared, Path};
 use super::Question::{self, *};
 use super::{bytes_of, PART, SIZE};
 use crate::random::Random;
@@ -631,8 +631,7 @@ impl Script {
 
     // A path to a name from the scope of the line.
     fn any_path(&mut self, whole: &[u16]) -> Path {
-        let alike = self.scope.iter().zip(whole).take_while(|(a, b)| a == b);
-        let shared = alike.count().min(whole.len() - 1);
+        let shared = shared(&self.scope, whole);
         let supers = vec![SUPER; self.scope.len() - shared];
         match self.source.between(0, 7) {
             0 | 1 => whole.to_vec(),
