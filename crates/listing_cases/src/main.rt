@@ -1,6 +1,6 @@
 // What `listing::list` answers: the smallest tape for each number that a listing can give, what happens to the lent text, and listings
 // at the limits. A case has a few words, then the tape's bytes, or how many there are, and then its text. The expected lines stand in
-// stdout, and were written from document 01.
+// stdout; docs/DECISIONS.md says where they come from.
 mod limits;
 mod lines;
 mod part;
