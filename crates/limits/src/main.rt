@@ -121,8 +121,8 @@ fn pens() {
     print(b"new at 65537", of_new(Pen::new(65537, 0)));
     print(b"new for target 65537", of_new(Pen::new(0, 65537)));
     let sound = pen(0, 0, 0, 0, 0);
-    print(b"set_pc to 65536", of_drawn(sound.set_pc(65536)));
-    print(b"set_pc to 65537", of_drawn(sound.set_pc(65537)));
+    print(b"set_pc to 65536", of_drawn(segment::set_pc(sound, 65536)));
+    print(b"set_pc to 65537", of_drawn(segment::set_pc(sound, 65537)));
 }
 
 // Every call on pens that are not sound.
@@ -140,14 +140,14 @@ fn print_pen(name: &[u8], bad: Pen) {
     let mut image = [0u8; 65536];
     io::write_all(STDOUT_FILENO, name);
     io::write_all(STDOUT_FILENO, b"\n");
-    print(b"  reset", of_drawn(bad.reset()));
+    print(b"  reset", of_drawn(segment::reset(bad)));
     print(b"  pc", of_place(bad.pc()));
-    print(b"  set_pc", of_drawn(bad.set_pc(0)));
+    print(b"  set_pc", of_drawn(segment::set_pc(bad, 0)));
     print(b"  target_pc", of_number(bad.target_pc()));
     print(b"  range", of_range(bad.range()));
     print(b"  target_offset", of_number(bad.target_offset()));
     print(b"  range_data", of_outcome(bad.range_data_answer(&image)));
-    print(b"  emit", of_drawn(bad.emit(&mut image, b"1")));
+    print(b"  emit", of_drawn(segment::emit(bad, &mut image, b"1")));
 }
 
 // Images that are too short, too long and empty.
@@ -170,7 +170,7 @@ fn emitted(pen: Pen, size: usize) -> u8 {
     if 65537 < size {
         return 0;
     }
-    of_drawn(pen.emit(&mut image[0..size], b"1"))
+    of_drawn(segment::emit(pen, &mut image[0..size], b"1"))
 }
 
 // The number of range_data of an image of that size, up to 65,537.

@@ -158,9 +158,9 @@ fn part(bytes: &[u8], count: usize, seed: usize) -> &[u8] {
 fn draw(operation: u8, a: usize, b: usize, pen: Pen, image: &mut [u8], bytes: &[u8]) -> Drawn {
     match operation {
         0 => new(pen, a, b),
-        1 => pen.reset(),
-        2 => pen.set_pc(a),
-        _ => pen.emit(image, part(bytes, a, b)),
+        1 => segment::reset(pen),
+        2 => segment::set_pc(pen, a),
+        _ => segment::emit(pen, image, part(bytes, a, b)),
     }
 }
 

@@ -2,3 +2,5 @@
 pub mod Laws
 pub mod Kept
 pub mod Unique
+pub mod Walk
+pub mod Parts

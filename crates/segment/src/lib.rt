@@ -1,6 +1,8 @@
 // The segment: a pen that writes bytes into a lent image of 65,536 bytes, under the Rust's names. The pen is a small struct by
 // value; the image stands beside it, so that writing one byte costs one byte. A call on a pen or an image that is not sound is
 // refused (1), and a refused call changes nothing.
+mod lent;
+
 use int64::Number;
 use program_counter::Extent;
 use program_counter::Place;
@@ -60,16 +62,6 @@ impl Pen {
         NewPen::Is(begin(initial, target))
     }
 
-    // Back to the initial place, with an empty range there and nothing emitted.
-    pub fn reset(self) -> Drawn
-        ensures { λ r. ⌜ saysDrawn r ≡ left self (reset self) ⌝ }
-    {
-        if !self.is_sound() {
-            return self.refused(ARGUMENT);
-        }
-        moved(begin(self.initial, self.target))
-    }
-
     // The place.
     pub fn pc(self) -> Place
         ensures { λ r. ⌜ saysPlace r ≡ pc self ⌝ }
@@ -78,26 +70,6 @@ impl Pen {
             return Place::Refused(ARGUMENT);
         }
         Place::At(ProgramCounter(self.place))
-    }
-
-    // Moves the place and leaves the range.
-    pub fn set_pc(self, pc: usize) -> Drawn
-        ensures { λ r. ⌜ saysDrawn r ≡ left self (setPc self pc) ⌝ }
-    {
-        if !self.is_sound() {
-            return self.refused(ARGUMENT);
-        }
-        if SIZE < pc {
-            return self.refused(ARGUMENT);
-        }
-        moved(Pen {
-            place: pc,
-            initial: self.initial,
-            target: self.target,
-            start: self.start,
-            end: self.end,
-            emitted: self.emitted,
-        })
     }
 
     // The place that the next byte is meant for.
@@ -156,21 +128,6 @@ impl Pen {
             return Outcome::Refused(ARGUMENT);
         }
         Outcome::Done
-    }
-
-    // Writes the bytes at the place, and moves it behind them.
-    pub fn emit(self, image: &mut [u8], bytes: &[u8]) -> Drawn
-        ensures { λ r. ⌜ (saysDrawn r ≡ left self (emit self (now (image .entry)) (now (bytes .entry))))
-            × (now (image .exit) ≡ imageAfter self (now (image .entry)) (now (bytes .entry))) ⌝ }
-    {
-        if !self.is_sound_over(image.len()) {
-            return self.refused(ARGUMENT);
-        }
-        if !self.has_room(bytes.len()) {
-            return self.refused(OUTSIDE);
-        }
-        draw(image, self.place, bytes, self.emitted);
-        moved(self.behind(bytes.len()))
     }
 
     // Whether the places are at most 65,536 and the range runs forward.
@@ -250,6 +207,51 @@ impl Pen {
             answer: Outcome::Refused(number),
         }
     }
+}
+
+// Back to the initial place, with an empty range there and nothing emitted.
+pub fn reset(pen: Pen) -> Drawn
+    ensures { λ r. ⌜ saysDrawn r ≡ left pen (reset pen) ⌝ }
+{
+    if !pen.is_sound() {
+        return pen.refused(ARGUMENT);
+    }
+    moved(begin(pen.initial, pen.target))
+}
+
+// Moves the place and leaves the range.
+pub fn set_pc(pen: Pen, pc: usize) -> Drawn
+    ensures { λ r. ⌜ saysDrawn r ≡ left pen (setPc pen pc) ⌝ }
+{
+    if !pen.is_sound() {
+        return pen.refused(ARGUMENT);
+    }
+    if SIZE < pc {
+        return pen.refused(ARGUMENT);
+    }
+    moved(Pen {
+        place: pc,
+        initial: pen.initial,
+        target: pen.target,
+        start: pen.start,
+        end: pen.end,
+        emitted: pen.emitted,
+    })
+}
+
+// Writes the bytes at the place, and moves it behind them.
+pub fn emit(pen: Pen, image: &mut [u8], bytes: &[u8]) -> Drawn
+    ensures { λ r. ⌜ (saysDrawn r ≡ left pen (emit pen (now (image .entry)) (now (bytes .entry))))
+        × (now (image .exit) ≡ imageAfter pen (now (image .entry)) (now (bytes .entry))) ⌝ }
+{
+    if !pen.is_sound_over(image.len()) {
+        return pen.refused(ARGUMENT);
+    }
+    if !pen.has_room(bytes.len()) {
+        return pen.refused(OUTSIDE);
+    }
+    draw(image, pen.place, bytes, pen.emitted);
+    moved(pen.behind(bytes.len()))
 }
 
 // A new pen, and that it was done.

@@ -312,14 +312,14 @@ fn draw(pen: Pen, place: usize, code: Code, image: &mut [u8]) -> Drawn
             answer: Outcome::Done,
         };
     }
-    let there = pen.set_pc(place);
+    let there = segment::set_pc(pen, place);
     let answer = there.answer;
     match answer {
         Outcome::Refused(_) => there,
         Outcome::Done => {
             let bytes = [code.b0, code.b1, code.b2];
             let moved = there.pen;
-            moved.emit(image, &bytes[..code.len as usize])
+            segment::emit(moved, image, &bytes[..code.len as usize])
         }
     }
 }

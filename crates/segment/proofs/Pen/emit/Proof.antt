@@ -1,79 +1,201 @@
--- `Pen::emit` meets its contract: what is refused leaves pen and image; what is done is what `draw` and `behind` give. Assumes nothing.
-use mathlib.Core.Path.{ap, _∙_}
-use Rattle.refusals.specs.Answer.{Done}
-use native.Mathlib.Omega.{arith}
-use borrow.Author.Needs.{needs}
-use Rattle.segment.proofs.Laws.{sound-over-has, fits-has, emit-refused, emit-done}
-use Rattle.refusals.proofs.Pick.{granted, passed, stopped}
-use Rattle.segment.specs.Segment.{ofBoth, emit}
-use Rattle.segment.proofs.Pen.emit.Statement.{statement}
-use Rattle.segment.proofs.Pen.emit.Tie as tie
+-- `Pen::emit` meets its contract, by a walk through its code: the lent pen's borrow is opened and the pen taken out; `emit`, of which
+-- only its contract is known, is given it with the image, for good, and with a copy of what the bytes own; the pen that comes back is
+-- stored where the old one was, and the borrow is closed at it. Assumes nothing.
+use Rattle.segment.proofs.Walk.{_≡_, refl, ap, ℕ, [], _∷_, List, length, URA, fullShare, named, Val, vptr, SProp, ent, sep, emp}
+use Rattle.segment.proofs.Walk.{via, fst∗, id⊢, GName, Lft, Share, Fml, ftrue, fat, flft, fobs, fbor, Memory, Routine, Heap, Calls}
+use Rattle.segment.proofs.Walk.{Loops, WpFn, Tables, Atoms, sem, Fun, fact, givenOf, tables, tablesOf, AllOutlive, FmC, fmOf}
+use Rattle.segment.proofs.Walk.{WpFn-mono, Given, ‵, raw, some, later, _⊛_, ⋆, _$_, _∵_, !, qed, by, move, keep, drop, use1, use2}
+use Rattle.segment.proofs.Walk.{split, join, pick, rewrite, fsplit, fsplit3, fjoin, fjoin3, feqL, feqI, suffices, frame, await}
+use Rattle.segment.proofs.Walk.{done, look, look-raw, store-raw, init, forget, stop, hop, fld, from, load, addr, of-opd, and-then}
+use Rattle.segment.proofs.Walk.{no-more, assigns, land, returns, enter, alloc1, alloc0, params1, pass1, pass0, free1, free0, agg}
+use Rattle.segment.proofs.Walk.{whole, sub, look-in, Body, owns, mem, u8, yes, RefT, MutRef, ptr-vals, mut-tells, sliceVal}
+use Rattle.segment.proofs.Walk.{MutSlice, ShrSlice, Room, finally, slice-vals, mut-slice-tells, shr-slice-tells, shr-slice-copy}
+use Rattle.segment.proofs.Walk.{plain, only, heard, nothing, onEntry, Meets, tripleOf, Contract, Triple, calls-at, ensured, lasts}
+use Rattle.segment.proofs.Walk.{entered, cited, says, Stays, stay-ref, gave-slice, stay-none-slice, walkOf, goes-ref}
+use Rattle.segment.proofs.Walk.{goes-gave-slice, goes-none-slice, Walks, ends-at, walked, walk-meets}
+use Rattle.segment.specs.declared.Pen.{Pen}
+use Rattle.segment.specs.declared.Drawn.{Drawn}
+use Rattle.segment.specs.Segment as by-value
+use Rattle.segment.specs.Says.{saysDrawn, left}
+use Rattle.segment.proofs.Pen as P
+use Rattle.segment.proofs.Drawn as D
+use Rattle.segment.proofs.Drawn.Laws as D′
+use Rattle.segment.proofs.Parts.{pens, outcomes, IsOutcome, drawn-tells, is-pen, is-answer, pen-typed, drawn-typed, outcome-typed}
+use Rattle.segment.proofs.Parts.{owned-outcome, peeks-drawn, opens-pen, closes-pen}
+use Rattle.segment.proofs.emit as callee
+use Rattle.segment.proofs.emit.Symbol as callee-code
+use Rattle.segment.proofs.emit.Met as callee-met
+use Rattle.segment.proofs.Pen.emit.Key.{name}
+use Rattle.segment.proofs.Pen.emit as f
+use Rattle.segment.proofs.Pen.emit.Statement as stated
+use Rattle.segment.proofs.Pen.emit.Code as code
 
-is-sound-over-requires : tie.Need-is-sound-over-requires
-is-sound-over-requires c κs = search needs
+-- the pen is lent to the end, the image is passed on, and the bytes are only read
+abbrev stayed : Stays (f.ended .signature .params) (f.ended .kept)
+stayed = (
+  stay-ref (0 ∷ []) tt (plain (λ _. P.the-row)),
+  (
+    gave-slice (1 ∷ []) tt (plain (λ _. u8)),
+    (stay-none-slice (2 ∷ []) tt (plain (λ _. u8)) yes, tt),
+  ),
+)
 
-refused-requires : tie.Need-refused-requires
-refused-requires c κs = search needs
+-- what `emit` promises of a pen, an image and bytes: its answer, and the image afterwards
+abbrev Said : Pen → List ℕ → List ℕ → Drawn → List ℕ → Type 0
+Said h ys zs r ys′ = (saysDrawn r ≡ left h (by-value.emit h ys zs)) × (ys′ ≡ by-value.imageAfter h ys zs)
 
-returns : tie.Need-returns
-unfolding emit ofBoth
-returns c = emit-refused _ _ _ (c .refused .ensures) (stopped _ _ (c .before .before .is-sound-over .ensures) (c .before .if1 .taken))
+module _ {M : Type 1} (𝓤 : URA M) (H : Heap 𝓤) (A : Atoms 𝓤) (at-mem : Memory → SProp 𝓤) (run : Routine → Fun 𝓤) where
+  abbrev Callee : Contract 𝓤
+  Callee = tripleOf 𝓤 H A callee.signature (callee.spec 𝓤 H A at-mem run)
 
-has-room-requires : tie.Need-has-room-requires
-has-room-requires c κs = search needs
+  module _ (W : Given 𝓤 H A) where
+    -- a pen h, lent at (b, o) for κ, an image y lent for κ₁, and bytes z for κ₂
+    module _ (κ κ₁ κ₂ : Lft) (bounds : AllOutlive 3 (f.signature .outlives) (κ, (κ₁, (κ₂, tt)))) (q q₁ q₂ : Share)
+        (b o : ℕ) (γ : GName) (h : Pen) (y z : RefT (List ℕ)) where
+      abbrev x : RefT Pen × (RefT (List ℕ) × (RefT (List ℕ) × Unit {0}))
+      x = (record { ptr = (b, o); name = γ; now = h }, (y, (z, tt)))
 
-refused-requires-2 : tie.Need-refused-requires-2
-refused-requires-2 c κs = search needs
+      abbrev s : Val
+      s = sliceVal (y .ptr) (length (y .now))
 
-returns-2 : tie.Need-returns-2
-unfolding emit ofBoth
-returns-2 c =
-    let tried = c .before .before in
-    emit-refused _ _ _ (c .refused2 .ensures)
-    (stopped _ _ (tried .has-room .ensures) (c .before .if2 .taken) ∙ passed _ _ (tried .before .before .is-sound-over .ensures) (tried .before .if1 .left))
+      abbrev t : Val
+      t = sliceVal (z .ptr) (length (z .now))
 
-draw-requires : tie.Need-draw-requires
-draw-requires c κs =
-    let tried = c .before .before in
-    let over = sound-over-has _ _ (granted (tried .before .before .is-sound-over .ensures) (tried .before .if1 .left)) in
-    let room = fits-has _ _ (granted (tried .has-room .ensures) (c .before .if2 .left)) in
-    omega arith
+      abbrev at : List Val × (List Val × (List Val × Unit {0}))
+      at = (vptr b o ∷ [], (s ∷ [], (t ∷ [], tt)))
 
-behind-requires : tie.Need-behind-requires
-behind-requires c κs =
-    let chosen = c .before .before .before .before in
-    fits-has _ _ (granted (chosen .before .has-room .ensures) (chosen .if2 .left)) .1
+      -- what the bytes own
+      abbrev Own : Fml
+      Own = ShrSlice (named 2) κ₂ u8 .own z (t ∷ [])
 
-moved-requires : tie.Need-moved-requires
-moved-requires c κs = search needs
+      abbrev Post : Val → SProp 𝓤
+      Post =
+          walkOf 𝓤 H A f.ended stayed (f.clauses 𝓤 H A at-mem run) .post
+          (((κ, (κ₁, (κ₂, tt))), (q, (q₁, (q₂, tt))), bounds, x, at), tt)
 
-same-length : tie.Need-same-length
-same-length c = search needs
+      -- ---- what the callee asks, and what it promises
 
-returns-3 : tie.Need-returns-3
-unfolding emit ofBoth
-returns-3 c =
-    let drawn = c .before .before .before .before in
-    let chosen = drawn .before .before in
-    let tried = chosen .before in
-    emit-done _ _ _ (c .moved .ensures)
-    (ap Done (c .before .behind .ensures)
-    ∙ passed _ _ (tried .has-room .ensures) (chosen .if2 .left)
-    ∙ passed _ _ (tried .before .before .is-sound-over .ensures) (tried .before .if1 .left))
-    (drawn .draw .ensures)
+      abbrev to-callee : Callee .Ghost
+      to-callee = (((κ₁, (κ₂, tt)), (q₁, (q₂, tt)), tt, (h, (y, (z, tt))), (pens h, (s ∷ [], (t ∷ [], tt)))), tt)
 
-pub emit-spec : {M : Type 1} → statement M
-emit-spec =
-    tie.close
-    (tie.spec
-    is-sound-over-requires
-    refused-requires
-    returns
-    has-room-requires
-    refused-requires-2
-    returns-2
-    draw-requires
-    behind-requires
-    moved-requires
-    same-length
-    returns-3)
+      abbrev Asked : Fml
+      Asked =
+          owns (P.the-row ∷ MutSlice (named 0) κ₁ u8 ∷ ShrSlice (named 1) κ₂ u8 ∷ []) (h, (y, (z, tt)))
+          (pens h, (s ∷ [], (t ∷ [], tt)))
+
+      goes : ent 𝓤 (sep 𝓤 (sep 𝓤 (A .lft κ₁ q₁) (sep 𝓤 (A .lft κ₂ q₂) (sem 𝓤 H A ftrue))) (sem 𝓤 H A Asked)) (Callee .pre to-callee)
+      goes = qed W ((‵ (flft κ₁ q₁) ⊛ ‵ (flft κ₂ q₂) ⊛ ‵ ftrue) ∷ ‵ Asked ∷ []) ∵ join ! $ frame ! $ done !
+
+      abbrev Ensured : Drawn → SProp 𝓤
+      Ensured r = ensured 𝓤 H A callee.ended (callee.clauses 𝓤 H A at-mem run) (κ₁, (κ₂, tt)) (h, (y, (z, tt))) tt r
+
+      -- ---- what is left at the end, and that it is enough
+
+      exits : (r : Drawn) (zs : List ℕ) → IsOutcome (r .answer) → Said h (y .now) (z .now) r zs → length zs ≡ length (y .now)
+          → ent 𝓤 (⋆ 𝓤 H A (‵ (fobs γ (P.the-row .coded .code (r .pen))) ∷ ‵ (fbor κ (Body (mem P.the-row) b o γ)) ∷ ‵ (flft κ q)
+          ∷ (‵ (flft κ₁ q₁) ⊛ ‵ (flft κ₂ q₂) ⊛ ‵ ftrue) ∷ ‵ (finally u8 (y .name) zs) ∷ ‵ Own ∷ [])) (Post (only (outcomes (r .answer))))
+      exits r zs is e l =
+          qed W (‵ (fobs γ (P.the-row .coded .code (r .pen))) ∷ ‵ (fbor κ (Body (mem P.the-row) b o γ)) ∷ ‵ (flft κ q)
+          ∷ (‵ (flft κ₁ q₁) ⊛ ‵ (flft κ₂ q₂) ⊛ ‵ ftrue) ∷ ‵ (finally u8 (y .name) zs) ∷ ‵ Own ∷ []) ∵
+          suffices ! _
+          (ends-at 𝓤 H A f.ended stayed (f.clauses 𝓤 H A at-mem run) W (((κ, (κ₁, (κ₂, tt))), (q, (q₁, (q₂, tt))), bounds, x, at), tt)
+          (only (outcomes (r .answer))) (r .answer) (r .pen, (zs, (tt, tt))) (tt, (l, (tt, tt)))) $
+          says ! e $ move ! (2 ∷ 3 ∷ []) $ join ! $ frame ! $ feqI ! (List Val) (vptr b o ∷ []) (vptr b o ∷ []) refl $ fjoin3 ! $
+          nothing ! $ move ! (3 ∷ 0 ∷ []) $ fjoin ! $ move ! (2 ∷ 0 ∷ []) $ fjoin ! $ move ! (1 ∷ 0 ∷ []) $ fjoin ! $
+          owned-outcome ! (r .answer) is $ move ! (1 ∷ 0 ∷ []) $ done !
+
+      walk : (C : Calls 𝓤 H) (Λ : Loops 𝓤 H) → FmC 𝓤 H (W .laws) C → Triple 𝓤 (C callee-code.name) Callee
+          → Room u8 (length (y .now)) → Room u8 (length (z .now))
+          → ent 𝓤 (onEntry 𝓤 H A f.signature (κ, (κ₁, (κ₂, tt))) (q, (q₁, (q₂, tt))) x at)
+          (WpFn 𝓤 H C Λ code.function (vptr b o ∷ s ∷ t ∷ []) Post)
+      walk C Λ fm known room room₂ =
+          qed W ((‵ (flft κ q) ⊛ ‵ (flft κ₁ q₁) ⊛ ‵ (flft κ₂ q₂) ⊛ ‵ ftrue)
+          ∷ ‵ (owns (MutRef (named 0) κ P.the-row ∷ MutSlice (named 1) κ₁ u8 ∷ ShrSlice (named 2) κ₂ u8 ∷ []) x at) ∷ []) ∵
+          split ! $ move ! (2 ∷ []) $ fsplit ! $ fsplit3 ! $ drop ! $ move ! (0 ∷ 1 ∷ 3 ∷ []) $
+          -- [obs; the pen's borrow; its token; what image and bytes own; their tokens]
+          enter ! C Λ code.function (vptr b o ∷ s ∷ t ∷ []) _ $
+          alloc1 ! (λ l₀. alloc1 ! (λ l₁. alloc1 ! (λ l₂. alloc1 ! (λ l₃. alloc1 ! (λ l₄. alloc1 ! (λ l₅. alloc1 ! (λ l₆. alloc1 ! (λ l₇.
+          alloc0 ! $ params1 ! $ pass1 ! (init ! 12 refl (tt, tt)) $
+          pass1 ! (init ! 10 refl (tt, (tt, (record { fits = room .0 }, tt)))) $
+          pass1 ! (init ! 8 refl (tt, (tt, (record { fits = room₂ .0 }, tt)))) $ pass0 ! $
+          move ! (16 ∷ 17 ∷ 18 ∷ []) $ opens-pen ! tt h b o (λ was.
+          -- [the pen's cell; what it owns; the open borrow; obs; auth; _7; …; _6; …; _5; …; _4; …; _3; …; _2; …; _1; …; room for _0; …;
+          -- what image and bytes own; their tokens]
+          assigns ! (of-opd ! (load ! (from ! (hop ! (look ! 17 refl) (stop !))) (look-raw ! 0 refl)))
+          (from ! (stop !)) (init ! 9 refl (pen-typed 𝓤 H A W h was)) $
+          assigns ! (addr ! (from ! (fld ! refl (hop ! (look-in ! 15 (sub ! 0 refl (whole !))) (stop !)))))
+          (from ! (stop !)) (init ! 7 refl (tt, tt)) $
+          assigns ! (agg ! (and-then ! (load ! (from ! (stop !)) (look ! 7 refl))
+          (and-then ! (load ! (from ! (fld ! refl (stop !))) (look-in ! 15 (sub ! 1 refl (whole !)))) (no-more !))))
+          (from ! (stop !)) (init ! 5 refl (tt, (tt, (record { fits = room .0 }, tt)))) $
+          -- what the bytes own is had twice: one copy for the callee, one for the end
+          move ! (21 ∷ []) $ fsplit ! $ move ! (1 ∷ []) $ fsplit ! $
+          use1 W (‵ Own ⊛ ‵ Own) (shr-slice-copy 𝓤 H A W (named 2) κ₂ u8 .twice z (t ∷ [])) $ split ! $
+          -- [Own; Own; true; what image owns; the pen's cell; what it owns; …; the tokens]
+          move ! (1 ∷ 2 ∷ []) $ fjoin ! $ move ! (2 ∷ 0 ∷ []) $ fjoin ! $ move ! (3 ∷ 0 ∷ []) $ fjoin ! $
+          -- the call
+          move ! (22 ∷ 0 ∷ []) $ use2 W (raw (Callee .pre to-callee)) goes $
+          calls-at ! fm Callee known to-callee (and-then ! (load ! (from ! (stop !)) (look ! 10 refl))
+          (and-then ! (load ! (from ! (stop !)) (look ! 6 refl)) (and-then ! (load ! (from ! (stop !)) (look ! 14 refl)) (no-more !)))) (λ w.
+          use1 W (later (some (λ (r : Drawn). ((‵ (flft κ₁ q₁) ⊛ ‵ (flft κ₂ q₂) ⊛ ‵ ftrue) ⊛ ‵ (D.the-row .own r (w ∷ [])))
+          ⊛ raw (Ensured r)))) (id⊢ 𝓤 _) $ await ! tt $ pick ! (λ r. split ! $ move ! (1 ∷ []) $
+          use1 W (some (λ (ws : Unit {0} × (List ℕ × (Unit {0} × Unit {0}))).
+          ‵ (lasts callee.ended (κ₁, (κ₂, tt)) (h, (y, (z, tt))) ws) ⊛ raw (fact 𝓤 (Said h (y .now) (z .now) r (ws .1 .0))))) (id⊢ 𝓤 _) $
+          pick ! (λ ws. split ! $ move ! (1 ∷ []) $ heard ! (Said h (y .now) (z .now) r (ws .1 .0)) (λ e.
+          fsplit ! $ drop ! $ fsplit ! $ fsplit ! $ move ! (1 ∷ []) $ feqL ! (λ l.
+          -- [the image's last list; …; the tokens and the Drawn; Own; the pen's cell; the open borrow; obs; auth; _7; …]
+          move ! (2 ∷ []) $ split ! $ move ! (1 ∷ []) $ peeks-drawn ! r w (λ is.
+          -- [what the Drawn owns; the tokens; the last list; …; Own; the pen's cell; the open borrow; obs; auth; _7; …; _6; …; _5; …;
+          -- room for _4; …; _3; …; _2; …; _1; …; room for _0; …]
+          land ! (from ! (stop !)) (init ! 15 refl (drawn-typed 𝓤 H A W r w is)) $
+          rewrite ! 15 (λ (u : Val). ‵ (fat fullShare D′.mir l₄ 0 u)) (ap only (drawn-tells r _ is)) refl $
+          -- its pen is stored, and its answer returned
+          assigns ! (of-opd ! (load ! (from ! (fld ! refl (stop !))) (look-in ! 15 (sub ! 0 refl (whole !)))))
+          (from ! (hop ! (look ! 21 refl) (stop !))) (store-raw ! 5 refl (pen-typed 𝓤 H A W (r .pen) (is-pen r w is))) $
+          assigns ! (of-opd ! (load ! (from ! (fld ! refl (stop !))) (look-in ! 15 (sub ! 1 refl (whole !)))))
+          (from ! (stop !)) (init ! 23 refl (outcome-typed 𝓤 H A W (r .answer) (is-answer r w is))) $
+          drop ! $ move ! (4 ∷ 5 ∷ 6 ∷ 7 ∷ []) $ closes-pen ! tt (r .pen) (is-pen r w is) b o $
+          -- [obs; the pen's borrow; its token; the tokens; the last list; …; Own; _7; …]
+          returns ! (look ! 21 refl) $ forget ! 7 refl $ forget ! 9 refl $ forget ! 11 refl $ forget ! 13 refl $ forget ! 15 refl $
+          forget ! 17 refl $ forget ! 19 refl $ forget ! 21 refl $
+          move ! (21 ∷ 22 ∷ []) $ free1 ! $ move ! (19 ∷ 20 ∷ []) $ free1 ! $ move ! (17 ∷ 18 ∷ []) $ free1 ! $ move ! (15 ∷ 16 ∷ []) $ free1 ! $
+          move ! (13 ∷ 14 ∷ []) $ free1 ! $ move ! (11 ∷ 12 ∷ []) $ free1 ! $ move ! (9 ∷ 10 ∷ []) $ free1 ! $ move ! (7 ∷ 8 ∷ []) $ free1 ! $
+          free0 ! $ keep ! (0 ∷ 1 ∷ 2 ∷ 3 ∷ 4 ∷ 6 ∷ []) $ by ! (exits r (ws .1 .0) (is-answer r w is) e l))))))))))))))))
+
+    walks : (C : Calls 𝓤 H) (Λ : Loops 𝓤 H) → FmC 𝓤 H (W .laws) C → Triple 𝓤 (C callee-code.name) Callee
+        → Walks 𝓤 H A f.ended stayed (WpFn 𝓤 H C Λ code.function) (f.clauses 𝓤 H A at-mem run)
+    walks C Λ fm known =
+        walked 𝓤 H A f.ended stayed (f.clauses 𝓤 H A at-mem run) (WpFn 𝓤 H C Λ code.function)
+        (λ κs. (ptr-vals, (slice-vals, (slice-vals, tt))))
+        (λ κs. (
+          mut-tells (named 0) (κs .0) P.the-row,
+          (
+            mut-slice-tells (named 1) (κs .1 .0) u8,
+            (shr-slice-tells (named 2) (κs .1 .1 .0) u8, tt),
+          ),
+        ))
+        (λ κs qs bounds a _ are. via 𝓤 _ (fst∗ 𝓤 _ (emp 𝓤))
+        (walk (κs .0) (κs .1 .0) (κs .1 .1 .0) bounds (qs .0) (qs .1 .0) (qs .1 .1 .0)
+        (a .0 .ptr .0) (a .0 .ptr .1) (a .0 .name) (a .0 .now) (a .1 .0) (a .1 .1 .0) C Λ fm known (are .1 .0 .0 .1) (are .1 .1 .0 .0 .1)))
+
+    meets : (𝓣 : Tables 𝓤 H) → Triple 𝓤 (𝓣 .C callee-code.name) Callee
+        → Meets 𝓤 H A f.signature (WpFn 𝓤 H (𝓣 .C) (𝓣 .Λ) code.function) (f.spec 𝓤 H A at-mem run)
+    meets 𝓣 known =
+        walk-meets 𝓤 H A f.ended stayed W (
+          goes-ref 𝓤 H A W 3 0 tt (plain (λ _. P.the-row)),
+          (
+            goes-gave-slice 𝓤 H A W 3 1 tt (plain (λ _. u8)),
+            (goes-none-slice 𝓤 H A W 3 (2 ∷ []) tt (plain (λ _. u8)) yes, tt),
+          ),
+        ) (f.clauses 𝓤 H A at-mem run)
+        (WpFn 𝓤 H (𝓣 .C) (𝓣 .Λ) code.function) (WpFn-mono 𝓤 H (W .laws) 𝓣 code.function)
+        (walks (𝓣 .C) (𝓣 .Λ) (fmOf 𝓤 H (W .laws) 𝓣) known)
+
+pub emit-spec : {M : Type 1} → stated.statement M
+unfolding code.routine tablesOf
+emit-spec 𝓤 H 𝓜 𝓖 𝓡 =
+    entered 𝓤 H (tripleOf 𝓤 H (𝓖 .A) f.signature (f.spec 𝓤 H (𝓖 .A) (𝓜 .mem) (𝓡 .run)))
+    (tables 𝓤 H 𝓜 𝓡 code.env .C) (tables 𝓤 H 𝓜 𝓡 code.env .Λ) name code.function (code.unfolded 𝓤 H 𝓜 𝓡)
+    (meets 𝓤 H (𝓖 .A) (𝓜 .mem) (𝓡 .run) (givenOf 𝓤 H 𝓜 𝓖) (tablesOf 𝓤 H 𝓜 (tables 𝓤 H 𝓜 𝓡 code.env))
+    (cited 𝓤 H (Callee 𝓤 H (𝓖 .A) (𝓜 .mem) (𝓡 .run)) 𝓜 𝓡 code.env callee-code.name callee-code.routine
+    code.calls-segment·emit (callee-met.met 𝓤 H 𝓜 𝓖 𝓡)))
