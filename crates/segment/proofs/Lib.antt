@@ -4,3 +4,6 @@ pub mod Kept
 pub mod Unique
 pub mod Walk
 pub mod Parts
+pub mod Loans
+pub mod Calls
+pub mod Two

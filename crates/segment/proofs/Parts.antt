@@ -1,6 +1,6 @@
 -- A pen, an outcome and a `Drawn` as machine values, and the steps of a walk over a lent pen: how each value is spelled, what is known of
 -- it, that it has its machine type, and how a pen's borrow is opened and closed. Assumes nothing beyond the logic's `Given`.
-use mathlib.Core.Path.{_≡_}
+use mathlib.Core.Path.{_≡_, subst}
 use mathlib.Core.List.{[], _∷_, List}
 use Prim.Native.Nat.{ℕ}
 use lib.Dec.{T as Holds}
@@ -37,6 +37,12 @@ pens = of-struct.vals P.the-type P′.the-laws
 abbrev pub IsPen : Pen → Type 0
 IsPen p = Is P.the-row p (pens p)
 
+pub pen-tells : (p : Pen) (vs : List Val) → Is P.the-row p vs → vs ≡ pens p
+pen-tells = of-struct.tells P.the-type P′.the-laws
+
+pub pen-spelt : (p : Pen) (vs : List Val) → Is P.the-row p vs → IsPen p
+pen-spelt p vs is = subst (Is P.the-row p) (pen-tells p vs is) is
+
 abbrev pub outcomes : Outcome → List Val
 outcomes = of-enum.vals O.the-type O′.the-laws
 
@@ -62,6 +68,12 @@ is-answer r w is = of-struct.owed D.the-type D′.the-laws r _ is .1 .0
 module _ {M : Type 1} (𝓤 : URA M) (H : Heap 𝓤) (A : Atoms 𝓤) (W : Given 𝓤 H A) where
   pub pen-typed : (p : Pen) → IsPen p → Holds (hasTy P′.mir (only (pens p))) × WT (only (pens p))
   pen-typed p is = of-struct.lawful P.the-type P′.the-laws 𝓤 H A W .typed p _ is .0
+
+  pub typed-pen : (p : Pen) (w : Val) → Is P.the-row p (w ∷ []) → Holds (hasTy P′.mir w) × WT w
+  typed-pen p w is = of-struct.lawful P.the-type P′.the-laws 𝓤 H A W .typed p _ is .0
+
+  pub typed-outcome : (a : Outcome) (w : Val) → Is O.the-row a (w ∷ []) → Holds (hasTy O′.mir w) × WT w
+  typed-outcome a w is = of-enum.lawful O.the-type O′.the-laws 𝓤 H A W tt .typed a _ is .0
 
   pub drawn-typed : (r : Drawn) (w : Val) → Is D.the-row r (w ∷ []) → Holds (hasTy D′.mir w) × WT w
   drawn-typed r w is = of-struct.lawful D.the-type D′.the-laws 𝓤 H A W .typed r _ is .0

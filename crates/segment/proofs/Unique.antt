@@ -21,6 +21,7 @@ use Rattle.refusals.proofs.Unique.{One, OneResult, same, told-apart, and-also}
 use Rattle.refusals.proofs.One as outcome-back
 use Rattle.int64.specs.Says.{says}
 use Rattle.int64.proofs.Unique.{back, back-says}
+use Rattle.program_counter.specs.declared.Extent.{Extent}
 use Rattle.program_counter.specs.Says.{saysPlace, saysRange}
 use Rattle.program_counter.proofs.Unique.{backPlace, back-place, backRange, back-range}
 use Rattle.segment.specs.Says.{saysNew, saysDrawn, left}
@@ -39,6 +40,7 @@ use Rattle.segment.proofs.Pen.target_offset.Reads as target-offset
 use Rattle.segment.proofs.Pen.range_data.Reads as range-data
 use Rattle.segment.proofs.Pen.range_data_answer.Reads as range-data-answer
 use Rattle.segment.proofs.emit.Reads as emit
+use Rattle.segment.proofs.lent.emit_two.Reads as emit-two
 use Rattle.segment.proofs.Pen.reset as f-reset
 use Rattle.segment.proofs.Pen.set_pc as f-set-pc
 use Rattle.segment.proofs.Pen.emit as f-emit
@@ -92,6 +94,9 @@ range-data-answer-one k a x y e f p q = told-apart outcome.says outcome-back.bac
 -- the result, and the image at exit
 pub emit-one : One {S = λ k. Drawn × List ℕ} (λ k x e. (x, e .1 .0 .now)) emit.Post
 emit-one k a x y e f p q = and-also (told-apart saysDrawn backDrawn back-drawn (p .0) (q .0)) (same (p .1) (q .1))
+
+pub emit-two-one : One {S = λ k. Extent × List ℕ} (λ k x e. (x, e .1 .0 .now)) emit-two.Post
+emit-two-one k a x y e f p q = and-also (told-apart saysRange backRange back-range (p .0) (q .0)) (same (p .1) (q .1))
 
 -- ---- the calls on a lent pen
 

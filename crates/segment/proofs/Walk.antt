@@ -21,9 +21,9 @@ unfoldable pub use contract.Running.{tablesOf}
 pub use contract.Lifetimes.{AllOutlive}
 pub use sound.WpLaws.{FmC, fmOf, WpFn-mono}
 -- ---- a line of a walk, and the steps of the code
-pub use types.Kit.{Given, ‵, raw, some, later, _⊛_, ⋆, _$_, _∵_, !, qed, by, move, keep, drop, use1, use2, split, join, pick, rewrite}
+pub use types.Kit.{Given, ‵, raw, some, later, _⊛_, ⋆, _$_, _∵_, !, qed, by, move, keep, drop, use0, use1, use2, split, join, pick, rewrite}
 pub use types.Kit.{fsplit, fsplit3, fjoin, fjoin3, feqL, feqI, suffices, frame, await, done}
-pub use types.Run.{look, look-raw, store-raw, init, forget, stop, hop, fld, from, load, addr, of-opd, and-then, no-more, assigns}
+pub use types.Run.{look, look-raw, store, store-raw, init, forget, stop, hop, fld, from, load, addr, of-opd, and-then, no-more, assigns}
 pub use types.Run.{land, returns, enter, alloc1, alloc0, params1, pass1, pass0, free1, free0}
 pub use types.Part.{agg, whole, sub, look-in}
 pub use types.SemTy.{Body}
@@ -37,8 +37,7 @@ pub use denote.Exit.{yes}
 pub use denote.Ref.{RefT, MutRef, ptr-vals, mut-tells}
 pub use denote.Slice.{sliceVal, MutSlice, ShrSlice, Room, finally, slice-vals, mut-slice-tells, shr-slice-tells, shr-slice-copy}
 pub use denote.Signature.{plain}
-pub use denote.Steps.{only, opens, closes, owned, peeks, heard, nothing}
-pub use denote.Struct.Steps.{spelt}
+pub use denote.Steps.{only, owned, peeks, heard, nothing}
 -- ---- a contract, at a call and at the function's own end
 pub use denote.Triple.Entry.{onEntry}
 pub use denote.Triple.Spec.{Meets, tripleOf}

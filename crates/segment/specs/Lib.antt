@@ -1,2 +1,4 @@
 pub mod Segment
 pub mod Says
+pub mod Two
+pub mod Steps

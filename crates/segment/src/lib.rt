@@ -1,9 +1,11 @@
-// The segment: a pen that writes bytes into a lent image of 65,536 bytes, under the Rust's names. The pen is a small struct by
-// value; the image stands beside it, so that writing one byte costs one byte. A call on a pen or an image that is not sound is
-// refused (1), and a refused call changes nothing.
+// The segment: a pen that writes bytes into a lent image of 65,536 bytes, under the Rust's names. The pen is a small struct; the
+// image stands beside it, so that writing one byte costs one byte. reset, set_pc and emit are here functions that take a pen and give
+// one; the methods of these names, in lent.rt, change a pen that is lent. A call on a pen or an image that is not sound is refused
+// (1), and a refused call changes nothing.
 mod lent;
 
 use int64::Number;
+pub use lent::emit_two;
 use program_counter::Extent;
 use program_counter::Place;
 use program_counter::ProgramCounter;
