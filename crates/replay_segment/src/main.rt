@@ -3,6 +3,9 @@
 // and the image are kept from question to question; a new pen leaves the image as it is. An answer is a line: of the first
 // four `done`, or `refused` where the Rust answers false, then the place and the range; of range_data its length and a
 // checksum; else numbers in decimal.
+// Each of the first four is also done from the same pen with one that is held and lent, into an image of its own: reset, set_pc and
+// emit are then the calls that change a pen where it is, and new is the same. Behind the answer stands ` differs` if the two pens
+// afterwards or the two answers are not the same, numbers included, and behind that of range_data if the two images are not.
 use int64::Number;
 use libc::STDIN_FILENO;
 use libc::STDOUT_FILENO;
@@ -74,6 +77,11 @@ fn print_outcome(answer: Outcome) {
     }
 }
 
+// Says that the lent pen gave something else.
+fn print_differs() {
+    io::write_all(STDOUT_FILENO, b" differs");
+}
+
 // Prints whether it was done, the place and the range.
 fn print_drawn(drawn: Drawn) {
     let pen = drawn.pen;
@@ -105,11 +113,14 @@ fn print_data(data: &[u8]) {
     print_two(data.len() as u64, checksum(data));
 }
 
-// Prints what range_data gives.
-fn print_range_data(pen: Pen, image: &[u8]) {
+// Prints what range_data gives, and whether the lent pen's image is another.
+fn print_range_data(pen: Pen, image: &[u8], lent_image: &[u8]) {
     match pen.range_data_answer(image) {
         Outcome::Done => print_data(pen.range_data(image)),
         Outcome::Refused(_) => print_refused(),
+    }
+    if !check::same(image, lent_image) {
+        print_differs();
     }
 }
 
@@ -164,25 +175,109 @@ fn draw(operation: u8, a: usize, b: usize, pen: Pen, image: &mut [u8], bytes: &[
     }
 }
 
+// Resets a pen that is held here and lent.
+fn lent_reset(pen: Pen) -> Drawn {
+    let mut held = pen;
+    let answer = held.reset();
+    Drawn { pen: held, answer }
+}
+
+// Moves the place of a pen that is held here and lent.
+fn lent_set_pc(pen: Pen, pc: usize) -> Drawn {
+    let mut held = pen;
+    let answer = held.set_pc(pc);
+    Drawn { pen: held, answer }
+}
+
+// Emits the bytes with a pen that is held here and lent.
+fn lent_emit(pen: Pen, image: &mut [u8], bytes: &[u8]) -> Drawn {
+    let mut held = pen;
+    let answer = held.emit(image, bytes);
+    Drawn { pen: held, answer }
+}
+
+// Does one of them with a pen that is lent.
+fn draw_lent(operation: u8, a: usize, b: usize, pen: Pen, image: &mut [u8], bytes: &[u8]) -> Drawn {
+    match operation {
+        0 => new(pen, a, b),
+        1 => lent_reset(pen),
+        2 => lent_set_pc(pen, a),
+        _ => lent_emit(pen, image, part(bytes, a, b)),
+    }
+}
+
+// Whether two pens are the same in every field.
+fn is_same_pen(pen: Pen, other: Pen) -> bool {
+    pen.place == other.place
+        && pen.initial == other.initial
+        && pen.target == other.target
+        && pen.start == other.start
+        && pen.end == other.end
+        && pen.emitted == other.emitted
+}
+
+// Whether an answer is done.
+fn is_done(answer: Outcome) -> bool {
+    match answer {
+        Outcome::Done => true,
+        Outcome::Refused(_) => false,
+    }
+}
+
+// Whether an answer is refused with this number.
+fn is_refused(answer: Outcome, number: u8) -> bool {
+    match answer {
+        Outcome::Done => false,
+        Outcome::Refused(other) => other == number,
+    }
+}
+
+// Whether two answers are the same, the number too.
+fn is_same_answer(answer: Outcome, other: Outcome) -> bool {
+    match answer {
+        Outcome::Done => is_done(other),
+        Outcome::Refused(number) => is_refused(other, number),
+    }
+}
+
+// Whether two draws gave the same pen and the same answer.
+fn is_same_drawn(drawn: Drawn, other: Drawn) -> bool {
+    let answer = drawn.answer;
+    let other_answer = other.answer;
+    is_same_pen(drawn.pen, other.pen) && is_same_answer(answer, other_answer)
+}
+
 // Prints what one of the other operations gives.
-fn print_answer(operation: u8, pen: Pen, image: &[u8]) {
+fn print_answer(operation: u8, pen: Pen, image: &[u8], lent_image: &[u8]) {
     match operation {
         4 => print_place(pen.pc()),
         5 => print_number(pen.target_pc()),
         6 => print_number(pen.target_offset()),
         7 => print_range(pen.range()),
-        _ => print_range_data(pen, image),
+        _ => print_range_data(pen, image, lent_image),
     }
 }
 
 // Prints the answer, and hands back the pen after it.
-fn apply(operation: u8, a: usize, b: usize, pen: Pen, image: &mut [u8], bytes: &[u8]) -> Pen {
+fn apply(
+    operation: u8,
+    a: usize,
+    b: usize,
+    pen: Pen,
+    image: &mut [u8],
+    lent_image: &mut [u8],
+    bytes: &[u8],
+) -> Pen {
     if 3 < operation {
-        print_answer(operation, pen, image);
+        print_answer(operation, pen, image, lent_image);
         return pen;
     }
     let drawn = draw(operation, a, b, pen, image, bytes);
+    let lent = draw_lent(operation, a, b, pen, lent_image, bytes);
     print_drawn(drawn);
+    if !is_same_drawn(drawn, lent) {
+        print_differs();
+    }
     drawn.pen
 }
 
@@ -192,31 +287,32 @@ fn number_at(question: &[u8], at: usize) -> usize {
 }
 
 // Answers one question.
-fn answer(pen: Pen, image: &mut [u8], bytes: &[u8]) -> Turn {
+fn answer(pen: Pen, image: &mut [u8], lent_image: &mut [u8], bytes: &[u8]) -> Turn {
     let mut question = [0u8; 9];
     if io::read_full(STDIN_FILENO, &mut question) < 9 {
         return Turn { pen, more: false };
     }
     let a = number_at(&question, 1);
     let b = number_at(&question, 5);
-    let after = apply(question[0], a, b, pen, image, bytes);
+    let after = apply(question[0], a, b, pen, image, lent_image, bytes);
     let more = io::write_all(STDOUT_FILENO, b"\n");
     Turn { pen: after, more }
 }
 
 // Answers every question. (A proved loop has to end, so it counts down, from a number that no input uses up.)
-fn answer_all(pen: Pen, image: &mut [u8], bytes: &[u8]) {
+fn answer_all(pen: Pen, image: &mut [u8], lent_image: &mut [u8], bytes: &[u8]) {
     let mut turn = Turn { pen, more: true };
     let mut left = u64::MAX;
     while left > 0 && turn.more {
-        turn = answer(turn.pen, image, bytes);
+        turn = answer(turn.pen, image, lent_image, bytes);
         left -= 1;
     }
 }
 
-// Every script writes into one image, whatever the last one left there.
+// Every script writes into one image, whatever the last one left there, and the lent pen into a second.
 fn main() {
     let mut image = [0u8; 65536];
+    let mut lent_image = [0u8; 65536];
     let mut bytes = [0u8; 65793];
     fill(&mut bytes);
     let pen = Pen {
@@ -227,5 +323,5 @@ fn main() {
         end: 0,
         emitted: false,
     };
-    answer_all(pen, &mut image, &bytes);
+    answer_all(pen, &mut image, &mut lent_image, &bytes);
 }

@@ -1,0 +1,2 @@
+-- What the walks of the three lent calls share.
+pub mod Held
