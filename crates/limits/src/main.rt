@@ -19,6 +19,7 @@ fn main() {
     pens();
     bad_pens();
     images();
+    runs();
     memories();
     entries();
     full_map();
@@ -171,6 +172,32 @@ fn emitted(pen: Pen, size: usize) -> u8 {
         return 0;
     }
     of_drawn(segment::emit(pen, &mut image[0..size], b"1"))
+}
+
+// Two runs of bytes in one image: at the last places, behind them, and in images of other sizes.
+fn runs() {
+    print(b"two runs at 0 and 65535", both(0, 65535, 65536));
+    print(b"two runs at 65536 and 0", both(65536, 0, 65536));
+    print(b"two runs at 0 and 65536", both(0, 65536, 65536));
+    print(b"two runs at 65537 and 0", both(65537, 0, 65536));
+    print(b"two runs at 65536 and 65537", both(65536, 65537, 65536));
+    print(
+        b"two runs at 65536 and 0 in 65535 bytes",
+        both(65536, 0, 65535),
+    );
+    print(
+        b"two runs at 0 and 65536 in 65537 bytes",
+        both(0, 65536, 65537),
+    );
+}
+
+// The number of two runs of one byte at these places in an image of that size, up to 65,537.
+fn both(initial: usize, place: usize, size: usize) -> u8 {
+    let mut image = [0u8; 65537];
+    if 65537 < size {
+        return 0;
+    }
+    of_range(segment::emit_two(initial, &mut image[0..size], b"1", place, b"2"))
 }
 
 // The number of range_data of an image of that size, up to 65,537.
