@@ -7,15 +7,23 @@ use Rattle.refusals.specs.Table.{argument}
 use Rattle.segment.specs.declared.Pen.{Pen}
 use Rattle.segment.specs.Segment.{size, new, setPc, emit, imageAfter, range}
 
+-- a pen and its image, after an emit
+abbrev pub emitted : Pen × List ℕ → List ℕ → Answer (Pen × List ℕ)
+emitted before bytes = mapped (λ p. (p, imageAfter (before .0) (before .1) bytes)) (emit (before .0) (before .1) bytes)
+
+-- after the place is set
+abbrev pub moved : Pen × List ℕ → ℕ → Answer (Pen × List ℕ)
+moved before at = mapped (λ p. (p, before .1)) (setPc (before .0) at)
+
 -- a pen begins at the initial place and emits the first bytes, is set to the other place and emits the second: the pen and the image
 -- afterwards, or the first refusal; an argument that is out of range is "tested first"
 unfoldable pub two : ℕ → List ℕ → List ℕ → ℕ → List ℕ → Answer (Pen × List ℕ)
 two initial image first place second =
     pick (leb place size)
     (andThen (new initial initial) (λ p.
-    andThen (emit p image first) (λ q.
-    andThen (setPc q place) (λ r.
-    mapped (λ s. (s, imageAfter r (imageAfter p image first) second)) (emit r (imageAfter p image first) second)))))
+    andThen (emitted (p, image) first) (λ half.
+    andThen (moved half place) (λ there.
+    emitted there second))))
     (Refused argument)
 
 -- the range that holds both
