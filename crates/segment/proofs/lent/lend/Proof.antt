@@ -165,13 +165,13 @@ module _ {M : Type 1} (𝓤 : URA M) (H : Heap 𝓤) (A : Atoms 𝓤) (at-mem : 
           (and-then ! (load ! (from ! (fld ! refl (stop !))) (look-in ! 34 (sub ! 1 refl (whole !)))) (no-more !))))
           (from ! (stop !)) (init ! 16 refl (tt, (tt, (record { fits = room .0 }, tt)))) $
           move ! (7 ∷ 6 ∷ []) $ lends-image ! tt (named 0) (named 1) ys b o (λ μ ε.
-          move ! (27 ∷ 0 ∷ 1 ∷ 5 ∷ 8 ∷ []) $
+          move ! (30 ∷ 0 ∷ 2 ∷ 8 ∷ 11 ∷ []) $
           calls-emit ! fm at-mem run known-emit p₀ (pen-spelt p₀ _ is) l₆ (bytes-at b o ε ys) z₁ s t₁
-          (λ _ _. and-then ! (load ! (from ! (stop !)) (look ! 19 refl)) (and-then ! (load ! (from ! (stop !)) (look ! 15 refl))
-          (and-then ! (load ! (from ! (stop !)) (look ! 30 refl)) (no-more !))))
+          (λ _ _. and-then ! (load ! (from ! (stop !)) (look ! 22 refl)) (and-then ! (load ! (from ! (stop !)) (look ! 18 refl))
+          (and-then ! (load ! (from ! (stop !)) (look ! 33 refl)) (no-more !))))
           (λ w₁ a₁ p₁ ys₁ isa₁ is₁ len₁ e₁.
-          land ! (from ! (stop !)) (init ! 23 refl (typed-outcome 𝓤 H A W a₁ w₁ isa₁)) $
-          move ! (2 ∷ 4 ∷ 1 ∷ []) $ image-back ! tt (named 0) ys ys₁ b o room len₁ $
+          land ! (from ! (stop !)) (init ! 26 refl (typed-outcome 𝓤 H A W a₁ w₁ isa₁)) $
+          move ! (2 ∷ 4 ∷ 1 ∷ 5 ∷ 6 ∷ 7 ∷ []) $ image-back ! tt (named 0) ys ys₁ b o room len₁ $
           -- [the image; the image's token; the pen; first's token; second; second, kept; first, kept; second's token; the locals]
           -- `Pen::set_pc`
           assigns ! (addr ! (from ! (stop !))) (from ! (stop !)) (init ! 14 refl (tt, tt)) $
