@@ -13,7 +13,7 @@ use Rattle.refusals.specs.Table.{argument}
 use Rattle.refusals.proofs.Never.{never}
 use Rattle.segment.specs.Segment.{size}
 use Rattle.symbols.specs.declared.SymbolTable.{SymbolTable}
-use Rattle.symbols.specs.Edges.{has}
+use Rattle.edges.specs.Edges.{has}
 use Rattle.form.specs.Form.{maxTape}
 use Rattle.form.specs.Statements.{statements}
 use Rattle.form.proofs.Numbers.{FaultBy, then-by, number-by}

@@ -9,7 +9,7 @@ use Rattle.refusals.specs.Answer.{pick}
 use Rattle.refusals.specs.AnswerAt.{AnswerAt, Fine, Fault}
 use Rattle.refusals.specs.Table.{argument}
 use Rattle.segment.specs.Segment.{size}
-use Rattle.symbols.specs.Edges.{maxNodes}
+use Rattle.edges.specs.Edges.{maxNodes}
 use Rattle.form.specs.Form.{maxTape}
 use Rattle.walk.specs.Walk.{origin}
 use Rattle.walk.specs.Numbers.{filled}

@@ -16,7 +16,7 @@ use Rattle.refusals.proofs.Never.{never}
 use Rattle.refusals.proofs.Answers.{fine-value}
 use Rattle.segment.specs.Segment.{size}
 use Rattle.symbols.specs.declared.SymbolTable.{SymbolTable}
-use Rattle.symbols.specs.Edges.{maxNodes}
+use Rattle.edges.specs.Edges.{maxNodes}
 use Rattle.symbols.specs.Symbols.{numberOr0}
 use Rattle.form.specs.Form.{maxTape}
 use Rattle.form.specs.Statements.{Statement, statements}

@@ -6,7 +6,7 @@ use lib.ListN.{length}
 use Rattle.refusals.specs.Answer.{pick}
 use Rattle.refusals.specs.AnswerAt.{Fault}
 use Rattle.refusals.specs.Table.{argument}
-use Rattle.symbols.specs.Edges.{has}
+use Rattle.edges.specs.Edges.{has}
 use Rattle.walk.specs.Walk.{origin}
 use Rattle.checker.specs.Check.{checked}
 use Rattle.checker.specs.Refusals.{refusals}

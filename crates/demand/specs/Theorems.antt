@@ -10,7 +10,7 @@ use lib.ListN.{length, take}
 use Rattle.refusals.specs.AnswerAt.{Fine, Fault}
 use Rattle.refusals.specs.Table.{argument}
 use Rattle.symbols.specs.declared.SymbolTable.{SymbolTable}
-use Rattle.symbols.specs.Edges.{has}
+use Rattle.edges.specs.Edges.{has}
 use Rattle.form.specs.Statements.{statements}
 use Rattle.names.specs.Names.{namesOf}
 use Rattle.walk.specs.Walk.{origin}

@@ -17,8 +17,9 @@ use Rattle.refusals.specs.Answer.{Answer, Done}
 use Rattle.refusals.specs.AnswerAt.{AnswerAt, Fine, Fault}
 use Rattle.refusals.specs.Table.{argument, unresolved}
 use Rattle.symbols.specs.declared.SymbolTable.{SymbolTable}
-use Rattle.symbols.specs.Edges.{queryOf}
-use Rattle.symbols.specs.Symbols.{edgesOf, isNode, queryEdges}
+use Rattle.edges.specs.Edges.{queryOf}
+use Rattle.scopes.specs.Scopes.{queryEdges}
+use Rattle.symbols.specs.Symbols.{edgesOf, isNode}
 use Rattle.symbols.proofs.Kept.{node-is, query-node}
 use Rattle.tape.specs.Record.{bytesAt}
 use Rattle.tape.proofs.Records.{record-most}

@@ -10,7 +10,7 @@ use Rattle.refusals.specs.Answer.{pick}
 use Rattle.refusals.specs.AnswerAt.{AnswerAt, Fine, Fault, andThen}
 use Rattle.refusals.specs.Table.{argument, unresolved}
 use Rattle.symbols.specs.declared.SymbolTable.{SymbolTable}
-use Rattle.symbols.specs.Edges.{maxNodes, queryOf}
+use Rattle.edges.specs.Edges.{maxNodes, queryOf}
 use Rattle.symbols.specs.Symbols.{edgesOf, isNode, numberAt}
 use Rattle.tape.specs.Record.{bytesAt}
 use Rattle.form.specs.Form.{maxDepth, expressionForm}

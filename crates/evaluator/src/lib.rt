@@ -78,7 +78,7 @@ pub fn expression_at<'a>(
 pub fn evaluate(expression: &[u8], table: SymbolTable, scope: u16, place: i64) -> Evaluated
     ensures { λ r. ⌜ saysEvaluated r ≡ evaluateOf (now (expression .entry)) table scope place ⌝ }
 {
-    if !symbols::is_node(&table.links, table.edges, table.nodes, scope) {
+    if !soundness::is_node(&table.links, table.edges, table.nodes, scope) {
         return Evaluated::Refused {
             number: ARGUMENT,
             at: 0,

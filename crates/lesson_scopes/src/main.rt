@@ -2,7 +2,7 @@
 // asks. What is printed is to be read aloud.
 use libc::STDOUT_FILENO;
 use symbols::Data;
-use symbols::Found;
+use scopes::Found;
 use symbols::Node;
 use symbols::SymbolTable;
 

@@ -25,7 +25,7 @@ ghost use lib.ListN.{length, getD};
 ghost use Rattle.refusals.specs.Answer.{pick};
 ghost use Rattle.refusals.specs.AnswerAt.{part};
 ghost use Rattle.segment.specs.Segment.{size};
-ghost use Rattle.symbols.specs.Edges.{maxNodes};
+ghost use Rattle.edges.specs.Edges.{maxNodes};
 ghost use Rattle.opcodes.specs.Encode.{code};
 ghost use Rattle.form.specs.Form.{maxTape};
 ghost use Rattle.form.specs.Statements.{whatOf, isInner, statements};

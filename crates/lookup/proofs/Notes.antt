@@ -13,9 +13,9 @@ use borrow.Author.Tests.{lt-ltb, le-ltb}
 use Rattle.refusals.proofs.Never.{never}
 use Rattle.refusals.specs.Answer.{Answer, pick}
 use Rattle.refusals.specs.AnswerAt.{AnswerAt, part}
-use Rattle.symbols.specs.declared.Found as F
-use Rattle.symbols.specs.declared.Found.the-variants as found
-use Rattle.symbols.specs.Says.{saysFound}
+use Rattle.scopes.specs.declared.Found as F
+use Rattle.scopes.specs.declared.Found.the-variants as found
+use Rattle.scopes.specs.Says.{saysFound}
 use Rattle.tape.specs.Kinds.{isName}
 use Rattle.tape.specs.Record.{bytesAt}
 use Rattle.tape.proofs.Records.{record-past}

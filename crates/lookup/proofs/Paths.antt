@@ -13,8 +13,8 @@ use Rattle.refusals.specs.Answer.{Answer, Refused}
 use Rattle.refusals.specs.Table.{argument}
 use Rattle.refusals.proofs.Pick.{at-false}
 use Rattle.little.specs.Little.{number, numberAt}
-use Rattle.symbols.specs.Edges.{maxEdges}
-use Rattle.symbols.specs.Symbols.{queryEdges}
+use Rattle.edges.specs.Edges.{maxEdges}
+use Rattle.scopes.specs.Scopes.{queryEdges}
 use Rattle.lookup.specs.Lookup.{ids, pathOf, nodeOf}
 
 -- ---- how many ids there are

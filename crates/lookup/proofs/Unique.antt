@@ -2,8 +2,8 @@
 use mathlib.Core.List.{List}
 use Prim.Native.Nat.{ℕ}
 use Rattle.refusals.proofs.Unique.{One, OneResult, same, told-apart}
-use Rattle.symbols.specs.Says.{saysFound}
-use Rattle.symbols.proofs.Unique.{backFound, back-found}
+use Rattle.scopes.specs.Says.{saysFound}
+use Rattle.scopes.proofs.Unique.{backFound, back-found}
 use Rattle.lookup.proofs.node_of.Reads as node-of
 use Rattle.lookup.proofs.note.Reads as note
 

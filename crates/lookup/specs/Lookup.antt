@@ -5,7 +5,7 @@ use mathlib.Core.Option.{Option}
 use lib.ListN.{drop}
 use Rattle.refusals.specs.Answer.{Answer}
 use Rattle.little.specs.Little.{number}
-use Rattle.symbols.specs.Symbols.{queryEdges}
+use Rattle.scopes.specs.Scopes.{queryEdges}
 
 -- "2 bytes an id"
 abbrev pub ids : List ℕ → List ℕ

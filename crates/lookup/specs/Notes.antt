@@ -8,7 +8,7 @@ use mathlib.Core.Path.{_≡_}
 use lib.Dec.{ltb}
 use lib.ListN.{length, getD, set}
 use Rattle.refusals.specs.Answer.{Answer, Done, Refused, pick}
-use Rattle.symbols.specs.Edges.{maxNodes}
+use Rattle.edges.specs.Edges.{maxNodes}
 use Rattle.tape.specs.Kinds.{isName}
 use Rattle.tape.specs.Record.{bytesAt}
 use Rattle.lookup.specs.Lookup.{nodeOf}

@@ -1,11 +1,11 @@
 // Names on a tape: the node that a name record reaches from the scope in which it is read, and the notes of these nodes, by offset.
 use refusals::ARGUMENT;
-use symbols::Found;
+use scopes::Found;
 use symbols::NODES;
 use symbols::WORDS;
 ghost use mathlib.Core.Path.{_≡_};
 ghost use Prim.Native.Nat.{_-_, _/_};
-ghost use Rattle.symbols.specs.Says.{saysFound};
+ghost use Rattle.scopes.specs.Says.{saysFound};
 ghost use Rattle.lookup.specs.Lookup.{nodeOf};
 ghost use Rattle.lookup.specs.Notes.{noted, noteOf};
 
@@ -26,7 +26,7 @@ pub fn node_of(links: &[u16; WORDS], edges: usize, scope: u16, name: &[u8]) -> F
         little::u16_at(name, 6),
         little::u16_at(name, 8),
     ];
-    symbols::query_edges(links, edges, scope, &path[..n])
+    scopes::query_edges(links, edges, scope, &path[..n])
 }
 
 // The node of a record that is a name, noted at its offset, if there is room for it.

@@ -5,7 +5,8 @@ use Rattle.opcodes.specs.Encode.{takes, bytesOf, inRange, encodeOf}
 use Rattle.segment.specs.Segment.{sound, soundOver, ofBoth, begun, fits, widened, emit}
 use Rattle.text_encoding.specs.Petscreen.{petscreenOf}
 use Rattle.little.specs.Little.{numberAt}
-use Rattle.symbols.specs.Edges as edges
+use Rattle.edges.specs.Edges as edges
+use Rattle.soundness.specs.Sound as soundness
 use Rattle.symbols.specs.Symbols as symbols
 use Rattle.tape.specs.Kinds.{sizeOf, isExpression, isName}
 use Rattle.tape.specs.Record.{recordAt}
@@ -17,7 +18,7 @@ use Rattle.marked.specs.Marked.{MarkedCases}
 pub marked-cases : MarkedCases
 unfolding
     formsOf takes bytesOf inRange encodeOf petscreenOf sound soundOver ofBoth begun fits widened emit
-    numberAt edges.has edges.chainOf edges.chain edges.parentOf edges.edgesIn symbols.new symbols.allFit symbols.allBelow symbols.rooted
-    symbols.soundEdges sizeOf isExpression isName recordAt expressionFault outsideFault headFault rangeFault declares bodyFault scopeFault faultOf hasExpression followed
+    numberAt edges.has edges.chainOf edges.chain edges.parentOf edges.edgesIn symbols.new soundness.allFit soundness.allBelow soundness.rooted
+    soundness.soundEdges sizeOf isExpression isName recordAt expressionFault outsideFault headFault rangeFault declares bodyFault scopeFault faultOf hasExpression followed
     scopesAfter after stepOf readFrom formOf flagged innerAt leaf expression fromScope evaluateOf
 marked-cases = (refl, (refl, (refl, (refl, (refl, (refl, (refl, (refl, (refl, (refl, (refl, (refl, (refl, (refl, (refl, (refl, (refl, (refl, (refl, (refl, (refl, tt)))))))))))))))))))))

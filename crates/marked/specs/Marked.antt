@@ -13,7 +13,7 @@ use Rattle.int64.specs.Num.{modZ}
 use Rattle.opcodes.specs.Encode.{lowFirst, encodeOf}
 use Rattle.segment.specs.Segment.{size, begun, emit}
 use Rattle.text_encoding.specs.Petscreen.{petscreenOf}
-use Rattle.symbols.specs.Edges.{root}
+use Rattle.edges.specs.Edges.{root}
 use Rattle.symbols.specs.Symbols.{new}
 use Rattle.tape.specs.Kinds as kind
 use Rattle.evaluator.specs.Evaluate.{evaluateOf}

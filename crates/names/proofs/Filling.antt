@@ -10,9 +10,9 @@ use Rattle.refusals.specs.Answer.{Answer, Refused, mapped}
 use Rattle.refusals.specs.AnswerAt as At
 use Rattle.refusals.specs.AnswerAt.{AnswerAt, Fine, Fault, andThen}
 use Rattle.little.specs.Little.{numberAt}
-use Rattle.symbols.specs.Edges.{edgesIn}
+use Rattle.edges.specs.Edges.{edgesIn}
 use Rattle.symbols.specs.Symbols.{edgesOf, new}
-use Rattle.symbols.proofs.Sound.{sound-has}
+use Rattle.soundness.proofs.Sound.{sound-has}
 use Rattle.symbols.proofs.Growing.{either-not}
 use Rattle.symbols.proofs.Kept.{new-sound}
 use Rattle.tape.specs.Kinds.{end}

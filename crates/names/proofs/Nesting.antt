@@ -12,7 +12,7 @@ use lib.ListN.{length, getD, drop}
 use borrow.Author.Tests.{eqb-true, ne-eqb, ltb-true}
 use Rattle.refusals.specs.Answer.{pick}
 use Rattle.little.specs.Little.{numberAt}
-use Rattle.symbols.specs.Edges.{root}
+use Rattle.edges.specs.Edges.{root}
 use Rattle.tape.specs.Kinds.{instruction, openScope, closeScope, label, constant, setPlace, byte, word}
 use Rattle.tape.specs.Record.{bytesAt}
 use Rattle.tape.proofs.Records.{record-end}

@@ -8,8 +8,8 @@ use lib.ListN.{length, getD, set}
 use borrow.Author.Tests.{eq-eqb, ne-eqb, lt-ltb, le-ltb}
 use Rattle.refusals.specs.Table.{noRoom, nameTaken}
 use Rattle.little.specs.Little.{numberAt}
-use Rattle.symbols.proofs.Laws as laws
-use Rattle.symbols.specs.Edges.{childOf, edgesIn, edgeAt}
+use Rattle.edges.proofs.Laws as laws
+use Rattle.edges.specs.Edges.{childOf, edgesIn, edgeAt}
 use Rattle.tape.specs.Kinds.{openScope, closeScope}
 use Rattle.form.specs.Form.{declares}
 use Rattle.names.specs.declared.Walk.{Walk}

@@ -15,9 +15,9 @@ use Rattle.refusals.proofs.Memory.{length-over}
 use Rattle.refusals.proofs.Never.{never}
 use Rattle.little.specs.Little.{numberAt}
 use Rattle.symbols.specs.declared.SymbolTable.{SymbolTable}
-use Rattle.symbols.specs.Edges.{edgesIn}
+use Rattle.edges.specs.Edges.{edgesIn}
 use Rattle.symbols.specs.Symbols.{insert}
-use Rattle.symbols.proofs.Sound.{SoundEdges}
+use Rattle.soundness.proofs.Sound.{SoundEdges}
 use Rattle.symbols.proofs.Growing.{word-before, word-in}
 use Rattle.tape.specs.Kinds.{isName, openScope, label, constant}
 use Rattle.form.specs.Form as form

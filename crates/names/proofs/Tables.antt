@@ -16,9 +16,10 @@ use Rattle.refusals.specs.Table.{noRoom}
 use Rattle.refusals.proofs.Never.{never}
 use Rattle.refusals.proofs.Pick.{done-missed, done-value}
 use Rattle.symbols.specs.declared.SymbolTable.{SymbolTable}
-use Rattle.symbols.specs.Edges.{edgesIn}
-use Rattle.symbols.specs.Symbols.{edgesOf, new, isNode, isName, room, withEdge, withNode, inserted, insert}
-use Rattle.symbols.proofs.Sound.{SoundEdges, sound-has}
+use Rattle.edges.specs.Edges.{edgesIn}
+use Rattle.growth.specs.Growth.{isName, room}
+use Rattle.symbols.specs.Symbols.{edgesOf, new, isNode, withEdge, withNode, inserted, insert}
+use Rattle.soundness.proofs.Sound.{SoundEdges, sound-has}
 use Rattle.symbols.proofs.Growing.{Sound, Place, inserted-sound, lengths-inserted, word-before, word-in}
 use Rattle.symbols.proofs.Kept.{insert-has, new-sound, sound-table}
 use Rattle.form.specs.Statements.{What, Statement, statements, placed, overStatements}

@@ -11,7 +11,7 @@ use Rattle.refusals.specs.AnswerAt.{AnswerAt, Fine, Fault, andThen}
 use Rattle.refusals.specs.Says.{saysAt}
 use Rattle.refusals.specs.Table.{argument, nameTaken}
 use Rattle.symbols.specs.declared.SymbolTable.{SymbolTable}
-use Rattle.symbols.specs.Edges.{childOf}
+use Rattle.edges.specs.Edges.{childOf}
 use Rattle.symbols.specs.Symbols.{edgesOf, new, insert}
 use Rattle.form.specs.Form.{maxTape, tapeForm}
 use Rattle.form.specs.Statements.{What, Instruction, Open, Close, Label, Constant, SetPlace, Byte, Word, Screen, Statement, statements, overStatements}

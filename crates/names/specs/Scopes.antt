@@ -4,7 +4,7 @@ use mathlib.Core.List.{List, [], _∷_}
 use lib.Dec.{ltb}
 use lib.ListN.{getD, drop}
 use Rattle.refusals.specs.Answer.{pick}
-use Rattle.symbols.specs.Edges.{root}
+use Rattle.edges.specs.Edges.{root}
 use Rattle.form.specs.Statements.{What, Instruction, Open, Close, Label, Constant, SetPlace, Byte, Word, Screen, Statement, statements}
 
 -- behind some statements: how many names they declare, and the nodes of the scopes that are open, the innermost first.

@@ -13,7 +13,7 @@ use Rattle.refusals.specs.Memory.{over}
 use Rattle.refusals.specs.Table.{noRoom, nameTaken}
 use Rattle.little.specs.Little.{numberAt}
 use Rattle.symbols.specs.declared.SymbolTable.{SymbolTable}
-use Rattle.symbols.specs.Edges.{root, maxNodes, width, childOf, edgesIn}
+use Rattle.edges.specs.Edges.{root, maxNodes, width, childOf, edgesIn}
 use Rattle.symbols.specs.Symbols.{new}
 use Rattle.tape.specs.Kinds.{openScope, closeScope}
 use Rattle.form.specs.Form.{declares}

@@ -9,7 +9,7 @@ use lib.ListN.{length, getD}
 use borrow.Author.Tests.{ltb-true, le-leb, lt-leb, leb-true}
 use Rattle.refusals.specs.Answer.{pick}
 use Rattle.refusals.proofs.Never.{never}
-use Rattle.symbols.specs.Edges.{maxNodes}
+use Rattle.edges.specs.Edges.{maxNodes}
 use Rattle.tape.specs.Record.{bytesAt}
 use Rattle.form.specs.Form.{declares, maxTape}
 use Rattle.form.specs.Statements.{isLast, statementsAt, statements}

@@ -12,7 +12,7 @@ use mir.Syntax.{w64}
 use mir.Val.{toZ}
 use Rattle.refusals.specs.Answer.{pick}
 use Rattle.refusals.proofs.Pick.{at-true, at-false}
-use Rattle.symbols.specs.Edges.{maxNodes}
+use Rattle.edges.specs.Edges.{maxNodes}
 use Rattle.symbols.specs.Symbols.{isKnown, numberOr0}
 use Rattle.tape.specs.Record.{bytesAt}
 use Rattle.form.specs.Form.{declares}

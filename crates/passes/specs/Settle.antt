@@ -7,7 +7,7 @@ use lib.ListN.{length}
 use Rattle.refusals.specs.Answer.{pick}
 use Rattle.refusals.specs.AnswerAt.{AnswerAt, Fine, Fault}
 use Rattle.refusals.specs.Table.{argument}
-use Rattle.symbols.specs.Edges.{maxNodes}
+use Rattle.edges.specs.Edges.{maxNodes}
 use Rattle.form.specs.Form.{maxTape}
 use Rattle.form.specs.Statements.{statements}
 use Rattle.walk.specs.declared.Numbers.{Numbers}

@@ -22,7 +22,7 @@ ghost use Prim.Native.Nat.{_+_, _<_, _^_};
 ghost use lib.ListN.{length, getD};
 ghost use Rattle.refusals.specs.AnswerAt.{Fault};
 ghost use Rattle.opcodes.specs.Says.{listed};
-ghost use Rattle.symbols.specs.Edges.{maxNodes};
+ghost use Rattle.edges.specs.Edges.{maxNodes};
 ghost use Rattle.symbols.specs.Symbols.{isKnown, numberOr0};
 ghost use Rattle.symbols.specs.Says.{saysData};
 ghost use Rattle.form.specs.Form.{declares};

@@ -15,8 +15,9 @@ use Rattle.refusals.specs.Answer.{Done, pick}
 use Rattle.refusals.specs.AnswerAt.{Fine}
 use Rattle.refusals.specs.Each.{Each}
 use Rattle.symbols.specs.declared.SymbolTable.{SymbolTable}
-use Rattle.symbols.specs.Edges.{queryOf}
-use Rattle.symbols.specs.Symbols.{edgesOf, isNode, sound, queryEdges}
+use Rattle.edges.specs.Edges.{queryOf}
+use Rattle.scopes.specs.Scopes.{queryEdges}
+use Rattle.symbols.specs.Symbols.{edgesOf, isNode, sound}
 use Rattle.symbols.proofs.Kept.{node-is, query-node}
 use Rattle.tape.specs.Record.{bytesAt}
 use Rattle.tape.proofs.Records.{record-most}

@@ -4,7 +4,7 @@ use mathlib.Core.List.{List}
 use mathlib.Core.Option.{Option, none, some}
 use lib.IntN.{ℤ}
 use Rattle.symbols.specs.declared.SymbolTable.{SymbolTable}
-use Rattle.symbols.specs.Edges.{queryOf}
+use Rattle.edges.specs.Edges.{queryOf}
 use Rattle.symbols.specs.Symbols.{edgesOf}
 use Rattle.tape.specs.Record.{bytesAt}
 use Rattle.form.specs.Form.{maxDepth}

@@ -1,131 +1,103 @@
--- What the tests of a call say, one behind the other, and which answer the definitions give behind them. Assumes nothing.
-use mathlib.Core.Bool.{Bool, true, false, _&&_, and-eq-true-iff}
-use mathlib.Core.Path.{_≡_, refl, sym, ap, _∙_}
+-- What the tests of a call say, and which answer the definitions give behind them. Assumes nothing.
+use mathlib.Core.Bool.{Bool, true, _&&_, and-eq-true-iff}
+use mathlib.Core.Path.{_≡_, sym, ap, _∙_}
 use mathlib.Core.List.{List, [], _∷_}
-use mathlib.Core.Option.{Option, none, some}
+use mathlib.Core.Option.{Option, none}
 use Prim.Native.Nat.{ℕ, zero, suc, _+_, _-_, _<_, _≤_}
 use native.Mathlib.Nat.{not-suc-le-zero}
 use native.Mathlib.Omega.{arith}
 use lib.Dec.{eqb, ltb}
+use lib.IntN.{ℤ}
 use lib.ListN.{length, take, drop, length-drop}
 use lib.Seq.{length-take-le, take-length}
-use borrow.Author.Tests.{ltb-true, le-ltb, lt-ltb}
+use borrow.Author.Tests.{ltb-true}
 use Rattle.refusals.specs.Answer.{Answer, Done, Refused, mapped}
 use Rattle.refusals.specs.Table.{argument, noRoom, nameTaken, loop}
-use Rattle.refusals.proofs.Pick.{at-true, at-false}
-use Rattle.symbols.specs.declared.edges.Edge.{Edge}
+use Rattle.refusals.proofs.Pick.{done-passed, done-missed, done-value}
+use Rattle.edges.specs.declared.There.{There}
+use Rattle.edges.specs.Edges.{has, chain, deepest, thereOf, taken}
+use Rattle.edges.proofs.Laws.{there-few, there-missing, there-rest}
+use Rattle.growth.specs.Growth.{isName, isNewPath, room, ofRoom, front, lastId, mayInsert, mayEnsure, mayExport, exportFrom}
+use Rattle.growth.proofs.Laws.{path-few, room-has, insert-other, ensure-other, export-other}
 use Rattle.symbols.specs.declared.SymbolTable.{SymbolTable}
-use Rattle.symbols.specs.Edges.{childOf, has, chain, allOf, deepest, taken}
-use Rattle.symbols.specs.Symbols.{edgesOf, allFit, soundEdges, isNode, isPath, isNewPath, room, withEdge, withNode, inserted, grown, ensureIndex, front, lastId, exported, exportFrom, export, queryAll, listed, listAfter}
-use Rattle.symbols.specs.Steps.{Ends}
-use Rattle.symbols.proofs.Chains.{fit-child, fit-top, up-rooted}
-use Rattle.symbols.proofs.Sound.{sound-has}
+use Rattle.symbols.specs.Symbols.{edgesOf, isNode, withEdge, withNode, inserted, grown, insert, ensureIndex, exported, export}
 
--- ---- two tests
+-- ---- insert
 
-pub fails-first : {p : Bool} (q : Bool) → p ≡ false → (p && q) ≡ false
-fails-first q h = rw h
+module _ (t : SymbolTable) (s x : ℕ) (d : Option ℤ) {r : Answer (Unit {0})}
+    (told : r ≡ mayInsert (t .nodes) (t .edges) (edgesOf t) s x tt) where
+  -- the table and the node in the place of what the test gave back
+  insert-told : mapped (λ _. (inserted t s x d, t .nodes)) r ≡ insert t s x d
+  unfolding insert
+  insert-told =
+      ap (mapped (λ _. (inserted t s x d, t .nodes))) told
+      ∙ sym (insert-other tt (inserted t s x d, t .nodes) (t .nodes) (t .edges) (edgesOf t) s x)
 
-pub fails-then : {p q : Bool} → p ≡ true → q ≡ false → (p && q) ≡ false
-fails-then h g = rw (h, g)
+  pub insert-refused : {why : ℕ} → r ≡ Refused why → Refused why ≡ insert t s x d
+  insert-refused e = ap (mapped (λ _. (inserted t s x d, t .nodes))) (sym e) ∙ insert-told
 
-pub holds-both : {p q : Bool} → p ≡ true → q ≡ true → (p && q) ≡ true
-holds-both h g = rw (h, g)
+  pub insert-done : r ≡ Done tt → Done (inserted t s x d, t .nodes) ≡ insert t s x d
+  insert-done e = ap (mapped (λ _. (inserted t s x d, t .nodes))) (sym e) ∙ insert-told
 
--- ---- a name
-
-pub no-name : (x : ℕ) → x ≡ 0 → ltb 0 x ≡ false
-no-name x e = le-ltb 0 x (omega arith)
-
-pub name : (x : ℕ) → (x ≡ 0 → ⊥) → ltb 0 x ≡ true
-name x h = lt-ltb 0 x (omega (arith, h))
-
--- ---- a node of a sound table: of n nodes and k edges, which are es
-
-module _ (n k : ℕ) (es : List Edge) (s : ℕ) where
-  pub record Node : Type 0 where
-    pub few-nodes : n ≤ 1024
-    pub few-edges : k ≤ 2048
-    pub below : s < n
-    pub ends : Ends es s
-
-  pub node-has : (soundEdges n k es && ltb s n) ≡ true → Node
-  node-has h =
-      let a = and-eq-true-iff (soundEdges n k es) (ltb s n) .0 h in
-      let b = sound-has n k es (a .0) in
-      let below : s < n = ltb-true s n (a .1) in
-      let way = b .way s below in
-      record {
-        few-nodes = b .few-nodes;
-        few-edges = b .few-edges;
-        below = below;
-        ends = (fit-top es n (b .fit), up-rooted es n (way .0) s (b .fit) (b .few-nodes) below (way .1));
-      }
-
-  -- another node of the same table, or none
-  module _ (h : (soundEdges n k es && ltb s n) ≡ true) {v : ℕ} (m : ℕ) (is : v ≡ m) where
-    pub also-node : v < n → (soundEdges n k es && ltb m n) ≡ true
-    also-node l = holds-both (and-eq-true-iff (soundEdges n k es) (ltb s n) .0 h .0) (lt-ltb m n (omega arith))
-
-    pub no-node : n ≤ v → (soundEdges n k es && ltb m n) ≡ false
-    no-node l = fails-then (and-eq-true-iff (soundEdges n k es) (ltb s n) .0 h .0) (le-ltb m n (omega arith))
-
--- ---- query_all
-
-module _ (t : SymbolTable) (s : ℕ) (path list : List ℕ) where
-  -- the count, and the list afterwards
-  abbrev Leaves : Answer ℕ → List ℕ → Type 0
-  Leaves a after = (a ≡ mapped length (queryAll t s path (length list))) × (after ≡ listAfter list (queryAll t s path (length list)))
-
-  pub all-refused : (isNode t s && isPath path && eqb (length list) 1024) ≡ false → Leaves (Refused argument) list
-  unfolding queryAll
-  all-refused h = rw h (refl, refl)
-
-  pub all-done : (isNode t s && isPath path && eqb (length list) 1024) ≡ true → {n : ℕ} {after : List ℕ}
-      → (after ≡ listed (allOf (edgesOf t) s path)) × (n ≡ length (allOf (edgesOf t) s path)) → Leaves (Done n) after
-  unfolding queryAll
-  all-done h e = rw h (ap Done (e .1), e .0)
+  pub insert-room : r ≡ Done tt → (t .nodes + 1 ≤ 1024) × (t .edges + 1 ≤ 2048)
+  insert-room e =
+      let a = done-passed (isNode t s && isName x) (ofRoom (t .nodes) (t .edges) 1 1 tt) argument (sym told ∙ e) in
+      room-has _ _ (done-passed (room (t .nodes + 1) (t .edges + 1)) (Done tt) noRoom (a .1) .0)
 
 -- ---- ensure_index
 
 -- a part up to the end
-pub to-the-end : (path : List ℕ) (d : ℕ) → take (length path - d) (drop d path) ≡ drop d path
+to-the-end : (path : List ℕ) (d : ℕ) → take (length path - d) (drop d path) ≡ drop d path
 to-the-end path d = ap (λ (k : ℕ). take k (drop d path)) (sym (length-drop d path)) ∙ take-length (drop d path)
 
-module _ (t : SymbolTable) (s : ℕ) (path : List ℕ) {p : ℕ × List ℕ} {m : ℕ}
-    (in-range : (isNode t s && isNewPath path) ≡ true) (there : p ≡ deepest (edgesOf t) s path) (missing : m ≡ length (p .1)) where
-  same-room : let missing = length (deepest (edgesOf t) s path .1) in
-      room (t .nodes + m) (t .edges + m) ≡ room (t .nodes + missing) (t .edges + missing)
-  same-room = ap (λ (k : ℕ). room (t .nodes + k) (t .edges + k)) (missing ∙ ap (λ (q : ℕ × List ℕ). length (q .1)) there)
+module _ (t : SymbolTable) (s : ℕ) (path : List ℕ) {r : Answer There}
+    (told : r ≡ mayEnsure (t .nodes) (t .edges) (edgesOf t) s path (thereOf (edgesOf t) s path)) where
+  abbrev there : ℕ × List ℕ
+  there = deepest (edgesOf t) s path
 
-  pub ensure-full : room (t .nodes + m) (t .edges + m) ≡ false → Refused noRoom ≡ ensureIndex t s path
+  ensure-told : mapped (λ _. grown t (there .0) (there .1)) r ≡ ensureIndex t s path
   unfolding ensureIndex
-  ensure-full h = at-false _ _ (sym same-room ∙ h) ∙ at-true _ _ in-range
+  ensure-told =
+      ap (mapped (λ _. grown t (there .0) (there .1))) told
+      ∙ sym (ensure-other _ (grown t (there .0) (there .1)) (t .nodes) (t .edges) (edgesOf t) s path)
 
-  pub ensure-done : room (t .nodes + m) (t .edges + m) ≡ true → Done (grown t (p .0) (p .1)) ≡ ensureIndex t s path
-  unfolding ensureIndex
-  ensure-done h =
-      ap (λ (q : ℕ × List ℕ). Done (grown t (q .0) (q .1))) there ∙ at-true _ _ (sym same-room ∙ h) ∙ at-true _ _ in-range
+  pub ensure-refused : {why : ℕ} → r ≡ Refused why → Refused why ≡ ensureIndex t s path
+  ensure-refused e = ap (mapped (λ _. grown t (there .0) (there .1))) (sym e) ∙ ensure-told
+
+  module _ {u : There} (e : r ≡ Done u) where
+    ensure-there : u ≡ thereOf (edgesOf t) s path
+    ensure-there =
+        done-value (sym e ∙ told ∙ ensure-other _ _ (t .nodes) (t .edges) (edgesOf t) s path ∙ ap (mapped (λ _. _)) (sym told ∙ e))
+
+    pub ensure-few : u .depth ≤ length path
+    ensure-few = omega (arith, ap (λ (v : There). v .depth) ensure-there, there-few (edgesOf t) s path)
+
+    -- the part of the path that is made
+    ensure-names : take (length path - u .depth) (drop (u .depth) path) ≡ there .1
+    ensure-names =
+        to-the-end path (u .depth) ∙ ap (λ (v : There). drop (v .depth) path) ensure-there ∙ there-rest (edgesOf t) s path
+
+    ensure-node : u .node ≡ there .0
+    unfolding thereOf
+    ensure-node = ap (λ (v : There). v .node) ensure-there
+
+    pub ensure-done : let names = take (length path - u .depth) (drop (u .depth) path) in
+        Done (grown t (u .node) names) ≡ ensureIndex t s path
+    ensure-done =
+        (λ i. Done (grown t (ensure-node i) (ensure-names i)))
+        ∙ ap (mapped (λ _. grown t (there .0) (there .1))) (sym e)
+        ∙ ensure-told
+
+    pub ensure-room : let missing = length (take (length path - u .depth) (drop (u .depth) path)) in
+        (t .nodes + missing ≤ 1024) × (t .edges + missing ≤ 2048)
+    ensure-room =
+        let m : ℕ = length (there .1) in
+        let a = done-passed (isNode t s && isNewPath path) (ofRoom (t .nodes) (t .edges) m m _) argument (sym told ∙ e) in
+        let b = room-has _ _ (done-passed (room (t .nodes + m) (t .edges + m)) (Done _) noRoom (a .1) .0) in
+        let same = ap (λ (l : List ℕ). length l) ensure-names in
+        (omega (arith, b .0, same), omega (arith, b .1, same))
 
 -- ---- export
-
--- the deepest node of a path that is there is a node
-deepest-node : (es : List Edge) (n s : ℕ) (path : List ℕ) → allFit n es ≡ true → s < n → deepest es s path .0 < n
-unfolding deepest
-deepest-node es n s [] ok l = l
-deepest-node es n s (x ∷ path) ok l = go (λ c. deepest-node es n c path ok) (childOf es s x) refl
-  where
-    go : ((c : ℕ) → c < n → deepest es c path .0 < n) → (f : Option ℕ) → childOf es s x ≡ f → deepest es s (x ∷ path) .0 < n
-    go ih none e = rw e l
-    go ih (some c) e = rw e (ih c (fit-child es n s x c ok e))
-
-pub deepest-in : (n k : ℕ) (es : List Edge) (s : ℕ) (path : List ℕ) → (soundEdges n k es && ltb s n) ≡ true → {p : ℕ × List ℕ}
-    → p ≡ deepest es s path
-    → (soundEdges n k es ≡ true) × (p .0 < n)
-deepest-in n k es s path h there =
-    let a = and-eq-true-iff (soundEdges n k es) (ltb s n) .0 h in
-    let node = deepest-node es n s path (sound-has n k es (a .0) .fit) (ltb-true s n (a .1)) in
-    (a .0, omega (arith, ap (λ (q : ℕ × List ℕ). q .0) there))
 
 -- how many edges there are behind new nodes
 pub grown-edges : (t : SymbolTable) (s : ℕ) (names : List ℕ) → grown t s names .0 .edges ≡ t .edges + length names
@@ -133,29 +105,8 @@ unfolding grown withEdge withNode
 grown-edges t s [] = omega arith
 grown-edges t s (x ∷ names) = grown-edges (inserted t s x none) (t .nodes) names ∙ omega arith
 
-module _ (t : SymbolTable) (n d : ℕ) (names : List ℕ) (x : ℕ) where
-  pub export-loop : has n (chain (edgesOf t) d) ≡ true → Refused loop ≡ exportFrom t n (d, names) x
-  unfolding exportFrom
-  export-loop h = at-true _ _ h
-
-  module _ (off : has n (chain (edgesOf t) d) ≡ false) where
-    pub export-taken : (eqb (length names) 0 && taken (edgesOf t) d x n) ≡ true → Refused nameTaken ≡ exportFrom t n (d, names) x
-    unfolding exportFrom
-    export-taken h = at-true _ _ h ∙ at-false _ _ off
-
-    module _ (free : (eqb (length names) 0 && taken (edgesOf t) d x n) ≡ false) where
-      pub export-full : room (t .nodes + length names) (t .edges + (length names + 1)) ≡ false
-          → Refused noRoom ≡ exportFrom t n (d, names) x
-      unfolding exportFrom
-      export-full h = at-false _ _ h ∙ at-false _ _ free ∙ at-false _ _ off
-
-      pub export-done : room (t .nodes + length names) (t .edges + (length names + 1)) ≡ true
-          → Done (exported t n (d, names) x) ≡ exportFrom t n (d, names) x
-      unfolding exportFrom
-      export-done h = at-true _ _ h ∙ at-false _ _ free ∙ at-false _ _ off
-
 -- the part of a path from d on, up to k
-pub part : (path : List ℕ) (d k : ℕ) → d ≤ k → k ≤ length path → drop d (take k path) ≡ take (k - d) (drop d path)
+part : (path : List ℕ) (d k : ℕ) → d ≤ k → k ≤ length path → drop d (take k path) ≡ take (k - d) (drop d path)
 part path zero k l h = let e : k ≡ k - 0 = omega arith in ap (λ (j : ℕ). take j path) e
 part path (suc d) zero l h = absurd (not-suc-le-zero l)
 part [] (suc d) (suc k) l h = absurd (not-suc-le-zero h)
@@ -163,21 +114,74 @@ part (x ∷ path) (suc d) (suc k) l h =
     part path d k (omega arith) (omega arith)
     ∙ (let e : k - d ≡ suc k - suc d = omega arith in ap (λ (j : ℕ). take j (drop d path)) e)
 
--- what export does behind its first tests: of the path's front, i ids are there, down to d
-module _ (t : SymbolTable) (n s : ℕ) (path : List ℕ) (d i : ℕ) where
-  on-from : (isNode t s && isNode t n && isNewPath path && ltb 0 (length path)) ≡ true → i ≤ length (front path)
-      → (d, drop i (front path)) ≡ deepest (edgesOf t) s (front path)
-      → exportFrom t n (d, take (length path - 1 - i) (drop i path)) (lastId path) ≡ export t n s path
-  unfolding export
-  on-from in-range few there =
-      let names = part path i (length path - 1) (omega (arith, few, length-take-le (length path - 1) path (omega arith))) (omega arith) in
-      ap (λ (l : List ℕ). exportFrom t n (d, l) (lastId path)) (sym names)
-      ∙ ap (λ (q : ℕ × List ℕ). exportFrom t n q (lastId path)) there
-      ∙ at-true _ _ in-range
+module _ (t : SymbolTable) (n s : ℕ) (path : List ℕ) {r : Answer There}
+    (told : r ≡ mayExport (t .nodes) (t .edges) (edgesOf t) n s path (thereOf (edgesOf t) s (front path))) where
+  abbrev above : ℕ × List ℕ
+  above = deepest (edgesOf t) s (front path)
 
-  -- the front as the part from 0 on
-  pub export-on : (isNode t s && isNode t n && isNewPath path && ltb 0 (length path)) ≡ true
-      → i ≤ length (take (length path - 1 - 0) path)
-      → (d, drop i (take (length path - 1 - 0) path)) ≡ deepest (edgesOf t) s (take (length path - 1 - 0) path)
-      → exportFrom t n (d, take (length path - 1 - i) (drop i path)) (lastId path) ≡ export t n s path
-  export-on = let same : length path - 1 - 0 ≡ length path - 1 = omega arith in rw same on-from
+  export-told : mapped (λ _. exported t n above (lastId path)) r ≡ export t n s path
+  unfolding export
+  export-told =
+      ap (mapped (λ _. exported t n above (lastId path))) told
+      ∙ sym (export-other _ (exported t n above (lastId path)) (t .nodes) (t .edges) (edgesOf t) n s path)
+
+  pub export-refused : {why : ℕ} → r ≡ Refused why → Refused why ≡ export t n s path
+  export-refused e = ap (mapped (λ _. exported t n above (lastId path))) (sym e) ∙ export-told
+
+  module _ {u : There} (e : r ≡ Done u) where
+    export-there : u ≡ thereOf (edgesOf t) s (front path)
+    export-there =
+        done-value (sym e ∙ told ∙ export-other _ _ (t .nodes) (t .edges) (edgesOf t) n s path ∙ ap (mapped (λ _. _)) (sym told ∙ e))
+
+    -- the tests passed, one behind the other
+    passed : let m = length (above .1) in
+        ((isNode t s && isNode t n && isNewPath path && ltb 0 (length path)) ≡ true) × (room (t .nodes + m) (t .edges + (m + 1)) ≡ true)
+    unfolding exportFrom
+    passed =
+        let m : ℕ = length (above .1) in
+        let here = isNode t s && isNode t n && isNewPath path && ltb 0 (length path) in
+        let a = done-passed here _ argument (sym told ∙ e) in
+        let b = done-missed (has n (chain (edgesOf t) (above .0))) _ loop (a .1) in
+        let c = done-missed (eqb m 0 && taken (edgesOf t) (above .0) (lastId path) n) _ nameTaken (b .1) in
+        (a .0, done-passed (room (t .nodes + m) (t .edges + (m + 1))) _ noRoom (c .1) .0)
+
+    pub export-long : 0 < length path
+    export-long =
+        ltb-true 0 (length path) (and-eq-true-iff (isNode t s && isNode t n && isNewPath path) (ltb 0 (length path)) .0 (passed .0) .1)
+
+    pub export-short : length path ≤ 4
+    export-short =
+        let ids = and-eq-true-iff (isNode t s && isNode t n && isNewPath path) (ltb 0 (length path)) .0 (passed .0) .0 in
+        path-few path (and-eq-true-iff (isNode t s && isNode t n) (isNewPath path) .0 ids .1)
+
+    -- how long the front is
+    front-long : length (front path) ≡ length path - 1
+    front-long = length-take-le (length path - 1) path (omega arith)
+
+    pub export-few : u .depth ≤ length path - 1
+    export-few = omega (arith, ap (λ (v : There). v .depth) export-there, there-few (edgesOf t) s (front path), front-long)
+
+    -- the part of the path that is made
+    export-names : take (length path - 1 - u .depth) (drop (u .depth) path) ≡ above .1
+    export-names =
+        sym (part path (u .depth) (length path - 1) export-few (omega arith))
+        ∙ ap (λ (v : There). drop (v .depth) (front path)) export-there
+        ∙ there-rest (edgesOf t) s (front path)
+
+    export-node : u .node ≡ above .0
+    unfolding thereOf
+    export-node = ap (λ (v : There). v .node) export-there
+
+    pub export-done : let names = take (length path - 1 - u .depth) (drop (u .depth) path) in
+        Done (exported t n (u .node, names) (lastId path)) ≡ export t n s path
+    export-done =
+        (λ i. Done (exported t n (export-node i, export-names i) (lastId path)))
+        ∙ ap (mapped (λ _. exported t n above (lastId path))) (sym e)
+        ∙ export-told
+
+    pub export-room : let missing = length (take (length path - 1 - u .depth) (drop (u .depth) path)) in
+        (t .nodes + missing ≤ 1024) × (t .edges + missing < 2048)
+    export-room =
+        let b = room-has _ _ (passed .1) in
+        let same = ap (λ (l : List ℕ). length l) export-names in
+        (omega (arith, b .0, same), omega (arith, b .1, same))

@@ -16,12 +16,14 @@ use borrow.Author.Tests.{eqb-true, eqb-false, eq-eqb, ne-eqb}
 use Rattle.refusals.specs.Memory.{over}
 use Rattle.refusals.proofs.Memory.{length-over}
 use Rattle.refusals.proofs.Never.{never}
-use Rattle.symbols.specs.declared.edges.Edge.{Edge}
+use Rattle.edges.specs.declared.Edge.{Edge}
 use Rattle.symbols.specs.declared.SymbolTable.{SymbolTable}
-use Rattle.symbols.specs.Edges.{childOf, stepOf, walkOf, has, deepest, edgeAt, edgesIn}
-use Rattle.symbols.specs.Symbols.{edgesOf, fits, allFit, withData, withEdge, withNode, inserted, grown, front, lastId}
-use Rattle.symbols.proofs.Sound.{SoundEdges}
-use Rattle.symbols.proofs.Chains.{fit-split, fit-is, fit-more, fit-child, Up, Off, new-off, parent-new, up-old, up-by, off-new}
+use Rattle.edges.specs.Edges.{childOf, stepOf, walkOf, has, deepest, edgeAt, edgesIn}
+use Rattle.soundness.specs.Sound.{fits, allFit}
+use Rattle.growth.specs.Growth.{front, lastId}
+use Rattle.symbols.specs.Symbols.{edgesOf, withData, withEdge, withNode, inserted, grown}
+use Rattle.soundness.proofs.Sound.{SoundEdges}
+use Rattle.soundness.proofs.Chains.{fit-split, fit-is, fit-more, fit-child, Up, Off, new-off, parent-new, up-old, up-by, off-new}
 
 -- ---- one edge more
 

@@ -15,13 +15,16 @@ use Rattle.refusals.specs.Answer.{Done, pick}
 use Rattle.refusals.specs.Table.{argument, noRoom, nameTaken, loop}
 use Rattle.refusals.proofs.Never.{never}
 use Rattle.refusals.proofs.Pick.{done-passed, done-missed, done-value}
-use Rattle.symbols.specs.declared.edges.Edge.{Edge}
+use Rattle.edges.specs.declared.Edge.{Edge}
 use Rattle.symbols.specs.declared.SymbolTable.{SymbolTable}
-use Rattle.symbols.specs.Edges.{found, childOf, parentOf, stepOf, walkOf, has, chain, chainOf, queryOn, queryOf, deepest, taken, elsewhere, edgesIn}
-use Rattle.symbols.specs.Symbols.{edgesOf, new, allFit, allBelow, rooted, soundEdges, sound, isNode, isName, isPath, isNewPath, room, numberAt, isKnown, numberOr0, withData, withEdge, withNode, inserted, grown, get, insert, updateData, query, queryEdges, ensureIndex, front, lastId, exported, exportFrom, export}
-use Rattle.symbols.proofs.Tables.{room-has}
-use Rattle.symbols.proofs.Sound.{sound-has, sound-is}
-use Rattle.symbols.proofs.Chains.{Up, Off, has-off, fit-parent, fit-child}
+use Rattle.edges.specs.Edges.{isPath, found, childOf, parentOf, stepOf, walkOf, has, chain, chainOf, queryOn, queryOf, deepest, taken, elsewhere, edgesIn}
+use Rattle.soundness.specs.Sound.{allFit, allBelow, rooted, soundEdges}
+use Rattle.scopes.specs.Scopes.{queryIn, queryEdges}
+use Rattle.growth.specs.Growth.{isName, isNewPath, room, front, lastId, exportFrom}
+use Rattle.symbols.specs.Symbols.{edgesOf, new, sound, isNode, numberAt, isKnown, numberOr0, withData, withEdge, withNode, inserted, grown, get, insert, updateData, query, ensureIndex, exported, export}
+use Rattle.growth.proofs.Laws.{room-has}
+use Rattle.soundness.proofs.Sound.{sound-has, sound-is}
+use Rattle.soundness.proofs.Chains.{Up, Off, has-off, fit-parent, fit-child}
 use Rattle.symbols.proofs.Growing.{Deepest, Grown, Holds, Place, Sound, child-new, deepest-is, edge-sound, edges-added, either-not, getD-not, grown-is, holds-edge, inserted-child, inserted-sound, lengths, lengths-data, lengths-edge, lengths-inserted, path-ends, take-not, walk-append, walk-on}
 
 -- ---- what an accepted call had
@@ -298,7 +301,7 @@ module _ (t : SymbolTable) (s : ℕ) (d : Option ℤ) (known : length (t .known)
 -- ---- what is lent is asked as the table is
 
 pub query-lent : (t : SymbolTable) (s : ℕ) (path : List ℕ) → isNode t s ≡ true → queryEdges (t .links) (t .edges) s path ≡ query t s path
-unfolding query queryEdges
+unfolding query queryIn queryEdges
 query-lent t s path h = rw (h, le-leb _ _ (node-is t s h .0 .few-edges))
 
 -- ---- what is found is a node

@@ -1,42 +1,18 @@
--- What the small steps of a call make of a table: room, numbers, a node more, an edge more. Assumes nothing.
-use mathlib.Core.Bool.{Bool, true, false, and-eq-true-iff}
+-- What the small steps of a call make of a table: numbers, a node more, an edge more. Assumes nothing.
+use mathlib.Core.Bool.{Bool, true, false}
 use mathlib.Core.Path.{_≡_, refl, sym, ap, _∙_}
 use mathlib.Core.List.{List}
 use mathlib.Core.Option.{Option, none, some}
 use Prim.Native.Nat.{ℕ, suc, _+_, _*_, _-_, _<_, _≤_}
 use native.Mathlib.Numerals.{add-one}
 use native.Mathlib.Omega.{arith}
-use lib.Dec.{leb}
 use lib.IntN.{ℤ, pos}
 use lib.ListN.{length, getD, set, drop}
 use lib.Seq.{drop-cons}
-use borrow.Author.Tests.{le-leb, lt-leb, leb-true, leb-false}
 use Rattle.symbols.specs.declared.SymbolTable.{SymbolTable}
-use Rattle.symbols.specs.Symbols.{room, numberAt, isKnown, numberOr0, withData, withEdge, withNode, inserted, grown}
-use Rattle.symbols.proofs.Laws.{at-end, three-stores}
-
--- ---- room
-
-module _ (n k : ℕ) where
-  pub room-nodes : 1024 < n → false ≡ room n k
-  unfolding room
-  room-nodes h = rw (lt-leb n 1024 h)
-
-  pub room-edges : n ≤ 1024 → leb k 2048 ≡ room n k
-  unfolding room
-  room-edges h = rw (le-leb n 1024 h)
-
-pub room-has : (n k : ℕ) → room n k ≡ true → (n ≤ 1024) × (k ≤ 2048)
-unfolding room
-room-has n k h = let a = and-eq-true-iff (leb n 1024) (leb k 2048) .0 h in (leb-true _ _ (a .0), leb-true _ _ (a .1))
-
--- what fits behind so many fits in all
-pub fits-behind : (edges k : ℕ) → edges ≤ 2048 → leb k (2048 - edges) ≡ leb (edges + k) 2048
-fits-behind edges k h = go (leb k (2048 - edges)) refl
-  where
-    go : (b : Bool) → leb k (2048 - edges) ≡ b → b ≡ leb (edges + k) 2048
-    go true e = sym (le-leb (edges + k) 2048 (omega (arith, leb-true k (2048 - edges) e)))
-    go false e = sym (lt-leb (edges + k) 2048 (omega (arith, leb-false k (2048 - edges) e)))
+use Rattle.growth.specs.Growth.{room}
+use Rattle.symbols.specs.Symbols.{numberAt, isKnown, numberOr0, withData, withEdge, withNode, inserted, grown}
+use Rattle.edges.proofs.Laws.{at-end, three-stores}
 
 -- ---- a node's number
 

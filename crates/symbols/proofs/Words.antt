@@ -12,12 +12,13 @@ use Rattle.refusals.specs.Answer.{Done, Refused, pick}
 use Rattle.refusals.specs.Table.{argument, noRoom, nameTaken, loop}
 use Rattle.refusals.proofs.Never.{never}
 use Rattle.refusals.proofs.Pick.{at-true, at-false, done-passed, done-value}
-use Rattle.symbols.specs.declared.edges.Edge.{Edge}
+use Rattle.edges.specs.declared.Edge.{Edge}
 use Rattle.symbols.specs.declared.SymbolTable.{SymbolTable}
-use Rattle.symbols.specs.Edges.{childOf, has, chain, deepest, elsewhere, taken}
-use Rattle.symbols.specs.Symbols.{edgesOf, isNode, isName, isPath, isNewPath, room, ofRoom, withEdge, withNode, inserted, grown, insert, ensureIndex, front, lastId, exported, exportFrom, export}
-use Rattle.symbols.proofs.Tables.{room-has}
-use Rattle.symbols.proofs.Chains.{fit-child, Off, has-up, has-off}
+use Rattle.edges.specs.Edges.{isPath, childOf, has, chain, deepest, elsewhere, taken}
+use Rattle.growth.specs.Growth.{isName, isNewPath, room, ofRoom, front, lastId, exportFrom}
+use Rattle.symbols.specs.Symbols.{edgesOf, isNode, withEdge, withNode, inserted, grown, insert, ensureIndex, exported, export}
+use Rattle.growth.proofs.Laws.{room-has}
+use Rattle.soundness.proofs.Chains.{fit-child, Off, has-up, has-off}
 use Rattle.symbols.proofs.Growing.{Sound, Missing, all-missing, has-not, inserted-sound, inserted-childless, Grown}
 use Rattle.symbols.proofs.Kept.{node-is, insert-has, ensure-has, sound-table}
 
@@ -80,7 +81,7 @@ pub export-words : (t : SymbolTable) (n s : ℕ) (path : List ℕ) {u : SymbolTa
     → export t n s path
     ≡ pick (has n (chain (edgesOf (u .0)) (u .1))) (Refused loop)
     (pick (taken (edgesOf (u .0)) (u .1) (lastId path) n) (Refused nameTaken)
-    (ofRoom (u .0) 0 1 (withEdge (u .0) (u .1) (lastId path) n)))
+    (ofRoom (u .0 .nodes) (u .0 .edges) 0 1 (withEdge (u .0) (u .1) (lastId path) n)))
 unfolding export exportFrom exported
 export-words t n s path {u} size e ok =
     let there : ℕ × List ℕ = deepest (edgesOf t) s (front path) in
@@ -146,11 +147,11 @@ export-no-room t n s path full ok =
 -- behind the test of its arguments, from what is there of the path
 ensure-from : (t : SymbolTable) (s : ℕ) (path : List ℕ) (there : ℕ × List ℕ) → (isNode t s && isNewPath path) ≡ true
     → deepest (edgesOf t) s path ≡ there
-    → ensureIndex t s path ≡ ofRoom t (length (there .1)) (length (there .1)) (grown t (there .0) (there .1))
+    → ensureIndex t s path ≡ ofRoom (t .nodes) (t .edges) (length (there .1)) (length (there .1)) (grown t (there .0) (there .1))
 unfolding ensureIndex
 ensure-from t s path there ok is =
     sym (at-true _ _ ok)
-    ∙ ap (λ (a : ℕ × List ℕ). ofRoom t (length (a .1)) (length (a .1)) (grown t (a .0) (a .1))) is
+    ∙ ap (λ (a : ℕ × List ℕ). ofRoom (t .nodes) (t .edges) (length (a .1)) (length (a .1)) (grown t (a .0) (a .1))) is
 
 -- where the first name is missing, all are
 all-to-make : (es : List Edge) (s : ℕ) (xs : List ℕ) → Missing es s xs → deepest es s xs ≡ (s, xs)
@@ -199,7 +200,7 @@ module _ (t : SymbolTable) (s x : ℕ) (path : List ℕ) (ok : (isNode t s && is
       ensure-from t s (x ∷ path) (deepest (edgesOf t) c path) ok (rw e) ∙ sym (ensure-from t c path _ next refl)
 
   module _ (e : childOf (edgesOf t) s x ≡ none) where
-    from-here : ensureIndex t s (x ∷ path) ≡ ofRoom t (length (x ∷ path)) (length (x ∷ path)) (grown t s (x ∷ path))
+    from-here : ensureIndex t s (x ∷ path) ≡ ofRoom (t .nodes) (t .edges) (length (x ∷ path)) (length (x ∷ path)) (grown t s (x ∷ path))
     from-here = ensure-from t s (x ∷ path) (s, x ∷ path) ok (all-to-make (edgesOf t) s (x ∷ path) e)
 
     -- an id that is not there: it is inserted without a number, and on from the new node

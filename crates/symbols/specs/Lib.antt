@@ -1,4 +1,3 @@
-pub mod Edges
+-- The definitions that the contracts of this crate cite.
 pub mod Symbols
-pub mod Steps
 pub mod Says

@@ -13,12 +13,6 @@ use Rattle.symbols.specs.declared.Got as G
 use Rattle.symbols.specs.declared.Got.the-variants as got
 use Rattle.symbols.specs.declared.Node as N
 use Rattle.symbols.specs.declared.Node.the-variants as node
-use Rattle.symbols.specs.declared.edges.Reached as R
-use Rattle.symbols.specs.declared.edges.Reached.the-variants as reached
-use Rattle.symbols.specs.declared.Found as F
-use Rattle.symbols.specs.declared.Found.the-variants as found
-use Rattle.symbols.specs.declared.Count as C
-use Rattle.symbols.specs.declared.Count.the-variants as count
 
 -- a number, or none
 abbrev pub saysData : D.Data → Option ℤ
@@ -33,20 +27,6 @@ saysGot (got.Refused n) = Refused n
 abbrev pub saysNode : N.Node → Answer ℕ
 saysNode (node.Is n) = Done n
 saysNode (node.Refused n) = Refused n
-
--- a node, or none
-abbrev pub saysReached : R.Reached → Option ℕ
-saysReached (reached.At n) = some n
-saysReached (reached.Nothing) = none
-
-abbrev pub saysFound : F.Found → Answer (Option ℕ)
-saysFound (found.At n) = Done (some n)
-saysFound (found.Nothing) = Done none
-saysFound (found.Refused n) = Refused n
-
-abbrev pub saysCount : C.Count → Answer ℕ
-saysCount (count.Is n) = Done n
-saysCount (count.Refused n) = Refused n
 
 -- the table afterwards, and the outcome
 abbrev pub saysChanged : Changed → SymbolTable × Answer (Unit {0})

@@ -1,18 +1,19 @@
 -- Document 01's "Symbols" as calls on a table: its refusals, and the table that each leaves. Assumes nothing: these are
 -- definitions.
-use mathlib.Core.Bool.{Bool, true, false, not, _&&_}
-use Prim.Native.Nat.{ℕ, zero, suc, _+_, _*_, _-_}
-use mathlib.Core.List.{List, [], _∷_, _++_}
+use mathlib.Core.Bool.{Bool, true, false, _&&_}
+use Prim.Native.Nat.{ℕ, _+_, _*_}
+use mathlib.Core.List.{List, [], _∷_}
 use mathlib.Core.Option.{Option, none, some}
-use lib.Dec.{eqb, leb, ltb}
 use lib.IntN.{ℤ, pos}
-use lib.ListN.{length, getD, set, take, replicate}
+use lib.ListN.{getD, set, replicate}
 use Rattle.refusals.specs.Answer.{Answer, Done, Refused, pick}
-use Rattle.refusals.specs.Table.{argument, noRoom, nameTaken, loop}
 use Rattle.refusals.specs.Memory.{over}
-use Rattle.symbols.specs.declared.edges.Edge.{Edge}
+use Rattle.edges.specs.declared.Edge.{Edge}
+use Rattle.edges.specs.Edges.{maxNodes, maxEdges, isPath, childOf, parentOf, walkOf, deepest, width, edgesIn}
+use Rattle.soundness.specs.Sound.{soundEdges, isNodeIn, ofRange}
+use Rattle.scopes.specs.Scopes.{queryIn, queryAllIn}
+use Rattle.growth.specs.Growth.{isName, front, lastId, mayInsert, mayEnsure, mayExport}
 use Rattle.symbols.specs.declared.SymbolTable.{SymbolTable}
-use Rattle.symbols.specs.Edges.{root, super, maxNodes, maxEdges, maxPath, childOf, parentOf, walkOf, has, chain, queryOf, allOf, deepest, taken, width, edgesIn}
 
 -- ---- a table
 
@@ -30,61 +31,15 @@ new = record {
   number = replicate maxNodes (pos 0);
 }
 
--- an edge between two of n nodes, under an id that is no super, and not into the root
-unfoldable pub fits : ℕ → Edge → Bool
-fits n e = ltb (e .from) n && ltb (e .to) n && ltb root (e .to) && ltb super (e .id)
-
--- every edge is one
-unfoldable pub allFit : ℕ → List Edge → Bool
-allFit n [] = true
-allFit n (e ∷ es) = fits n e && allFit n es
-
--- every number below n passes the test
-unfoldable pub allBelow : ℕ → (ℕ → Bool) → Bool
-allBelow zero f = true
-allBelow (suc n) f = f n && allBelow n f
-
--- the chain of s ends at the root
-unfoldable pub rooted : List Edge → ℕ → Bool
-rooted es s = has root (chain es s)
-
--- "A table [..] with a bad index, or a chain that misses the root, is a 1": n nodes, and k edges, which are es
-unfoldable pub soundEdges : ℕ → ℕ → List Edge → Bool
-soundEdges n k es = leb 1 n && leb n maxNodes && leb k maxEdges && allFit n es && allBelow n (rooted es)
-
 -- a table whose counts, edges and chains are so
 abbrev pub sound : SymbolTable → Bool
 sound t = soundEdges (t .nodes) (t .edges) (edgesOf t)
 
 -- ---- arguments
 
--- "an argument, index or buffer length is outside its stated range; tested first"
-abbrev pub ofRange : {A : Type 0} → Bool → Answer A → Answer A
-ofRange b a = pick b a (Refused argument)
-
 -- a sound table, and a node of it
 abbrev pub isNode : SymbolTable → ℕ → Bool
-isNode t s = sound t && ltb s (t .nodes)
-
--- an id of 1 to 65,535
-abbrev pub isName : ℕ → Bool
-isName x = ltb super x
-
--- "paths of 0 to 4 ids"
-abbrev pub isPath : List ℕ → Bool
-isPath path = leb (length path) maxPath
-
--- a path that a table may be given: without a super
-abbrev pub isNewPath : List ℕ → Bool
-isNewPath path = isPath path && not (has super path)
-
--- room for so many nodes and edges in all
-unfoldable pub room : ℕ → ℕ → Bool
-room nodes edges = leb nodes maxNodes && leb edges maxEdges
-
--- "has no room for all the call needs": n more nodes, and k more edges
-abbrev pub ofRoom : {A : Type 0} → SymbolTable → ℕ → ℕ → A → Answer A
-ofRoom t n k a = pick (room (t .nodes + n) (t .edges + k)) (Done a) (Refused noRoom)
+isNode t s = isNodeIn (t .nodes) (t .edges) (edgesOf t) s
 
 -- ---- a node's number
 
@@ -162,9 +117,7 @@ get t s = ofRange (isNode t s) (Done (numberAt (t .known) (t .number) s))
 
 -- "insert": the table with the new node, and its number as a node
 unfoldable pub insert : SymbolTable → ℕ → ℕ → Option ℤ → Answer (SymbolTable × ℕ)
-insert t s x d =
-    ofRange (isNode t s && isName x)
-    (ofRoom t 1 1 (inserted t s x d, t .nodes))
+insert t s x d = mayInsert (t .nodes) (t .edges) (edgesOf t) s x (inserted t s x d, t .nodes)
 
 -- the table in which the node has this number, or none
 unfoldable pub updateData : SymbolTable → ℕ → Option ℤ → Answer SymbolTable
@@ -184,54 +137,23 @@ tryIndex t s path = ofRange (isNode t s && isPath path) (Done (walkOf (edgesOf t
 
 -- what a path means in a scope, asked from there up
 unfoldable pub query : SymbolTable → ℕ → List ℕ → Answer (Option ℕ)
-query t s path = ofRange (isNode t s && isPath path) (Done (queryOf (edgesOf t) s path))
-
--- the same in k edges that may be those of no sound table: a chain is then no longer than a table has nodes
-unfoldable pub queryEdges : List ℕ → ℕ → ℕ → List ℕ → Answer (Option ℕ)
-queryEdges links k s path = ofRange (leb k maxEdges && isPath path) (Done (queryOf (edgesIn links k) s path))
+query t s path = queryIn (t .nodes) (t .edges) (edgesOf t) s path
 
 -- the missing nodes of a path are made, all or none
 unfoldable pub ensureIndex : SymbolTable → ℕ → List ℕ → Answer (SymbolTable × ℕ)
 ensureIndex t s path =
     let there = deepest (edgesOf t) s path in
-    let missing = length (there .1) in
-    ofRange (isNode t s && isNewPath path)
-    (ofRoom t missing missing (grown t (there .0) (there .1)))
-
--- an export path: where the new edge leaves, and its name
-abbrev pub front : List ℕ → List ℕ
-front path = take (length path - 1) path
-
-abbrev pub lastId : List ℕ → ℕ
-lastId path = getD path (length path - 1) 0
+    mayEnsure (t .nodes) (t .edges) (edgesOf t) s path (grown t (there .0) (there .1))
 
 -- "Export makes missing path nodes [..], else adds an edge": from there to the exported node n, under the name x
 unfoldable pub exported : SymbolTable → ℕ → ℕ × List ℕ → ℕ → SymbolTable
 exported t n there x = let made = grown t (there .0) (there .1) in withEdge (made .0) (made .1) x n
 
--- "Export tests 1, 4, 3, 2": behind 1, from the deepest node that is there; a node that is yet to be made has no edge
-unfoldable pub exportFrom : SymbolTable → ℕ → ℕ × List ℕ → ℕ → Answer SymbolTable
-exportFrom t n there x =
-    let missing = length (there .1) in
-    pick (has n (chain (edgesOf t) (there .0))) (Refused loop)
-    (pick (eqb missing 0 && taken (edgesOf t) (there .0) x n) (Refused nameTaken)
-    (ofRoom t missing (missing + 1) (exported t n there x)))
-
 -- node n is exported from s by the path; "Empty export path: 1"
 unfoldable pub export : SymbolTable → ℕ → ℕ → List ℕ → Answer SymbolTable
 export t n s path =
-    ofRange (isNode t s && isNode t n && isNewPath path && ltb 0 (length path))
-    (exportFrom t n (deepest (edgesOf t) s (front path)) (lastId path))
+    mayExport (t .nodes) (t .edges) (edgesOf t) n s path (exported t n (deepest (edgesOf t) s (front path)) (lastId path))
 
 -- the nodes for a lent list of so many places: "its lent list has 1,024 places"
 unfoldable pub queryAll : SymbolTable → ℕ → List ℕ → ℕ → Answer (List ℕ)
-queryAll t s path places = ofRange (isNode t s && isPath path && eqb places maxNodes) (Done (allOf (edgesOf t) s path))
-
--- the answers, and "zero behind the answers"
-abbrev pub listed : List ℕ → List ℕ
-listed answers = answers ++ replicate (maxNodes - length answers) 0
-
--- "Refused calls leave [..] query_all's list unchanged"
-abbrev pub listAfter : List ℕ → Answer (List ℕ) → List ℕ
-listAfter list (Done answers) = listed answers
-listAfter list (Refused n) = list
+queryAll t s path places = queryAllIn (t .nodes) (t .edges) (edgesOf t) s path places

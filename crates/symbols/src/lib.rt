@@ -1,38 +1,32 @@
 // The symbol table, under the Rust's names: nodes, numbered as they are made, joined by edges with names. The nodes below a node
 // are its scope. A table is plain data and goes in and comes back by value; inside a call, look-ups lend its edges and copy
 // nothing. A call on a table that is not sound is refused (1), and a refused call changes nothing.
-mod edges;
-mod soundness;
-
-use edges::Reached;
+use edges::LONGEST;
 use edges::SUPER;
 use edges::WIDTH;
+use edges::wide;
+use growth::Growth;
 use refusals::ARGUMENT;
-use refusals::LOOP;
-use refusals::NAME_TAKEN;
-use refusals::NO_ROOM;
 use refusals::Outcome;
-ghost use mathlib.Core.Bool.{true, _&&_};
+use scopes::Count;
+use scopes::Found;
+use soundness::is_node;
 ghost use mathlib.Core.Path.{_≡_};
 ghost use Prim.Native.Nat.{_+_, _<_, _≤_};
 ghost use lib.ListN.{length};
-ghost use lib.Dec.{eqb, ltb};
 ghost use Rattle.refusals.specs.Answer.{Done, Refused, mapped};
-ghost use Rattle.symbols.specs.Edges.{maxNodes, maxEdges, taken, edgesIn};
-ghost use Rattle.symbols.specs.Symbols.{left, leftNode, new, soundEdges, sound, isNewPath, room, numberAt, isKnown, numberOr0, withData, withEdge, withNode, inserted, grown, get, insert, updateData, child, parent, tryIndex, query, queryEdges, ensureIndex, exportFrom, export, queryAll, listAfter};
-ghost use Rattle.symbols.specs.Says.{saysData, saysGot, saysReached, saysFound, saysCount, saysChanged, saysInserted};
+ghost use Rattle.edges.specs.Edges.{maxNodes, maxEdges};
+ghost use Rattle.scopes.specs.Scopes.{listAfter};
+ghost use Rattle.scopes.specs.Says.{saysFound, saysCount};
+ghost use Rattle.symbols.specs.Symbols.{left, leftNode, new, numberAt, isKnown, numberOr0, withData, withEdge, withNode, inserted, grown};
+ghost use Rattle.symbols.specs.Symbols.{get, insert, updateData, child, parent, tryIndex, query, ensureIndex, export, queryAll};
+ghost use Rattle.symbols.specs.Says.{saysData, saysGot, saysChanged, saysInserted};
 
 // How many nodes a table holds, with the root; also how many places the list of query_all has.
-pub const NODES: usize = 1024;
+pub const NODES: usize = edges::NODES;
 
-// How many edges a table holds.
-pub const EDGES: usize = 2048;
-
-// How many words the edges have, three each.
-pub const WORDS: usize = 6144;
-
-// How many ids a path has at most.
-const LONGEST: usize = 4;
+// How many words the edges have.
+pub const WORDS: usize = edges::WORDS;
 
 // How many nodes and edges there are; the edges in the order of adding, three words each; and of each node whether it has a
 // number, and which.
@@ -60,19 +54,6 @@ pub enum Got {
 // A node, or the refusal.
 pub enum Node {
     Is(u16),
-    Refused(u8),
-}
-
-// The node that a look-up finds, if it finds one, or the refusal.
-pub enum Found {
-    At(u16),
-    Nothing,
-    Refused(u8),
-}
-
-// How many answers there are, or the refusal.
-pub enum Count {
-    Is(usize),
     Refused(u8),
 }
 
@@ -122,20 +103,16 @@ impl SymbolTable {
     pub fn insert(self, parent: u16, id: u16, value: Data) -> Inserted
         ensures { λ r. ⌜ saysInserted r ≡ leftNode self (insert self parent id (saysData value)) ⌝ }
     {
-        if !is_node(&self.links, self.edges, self.nodes, parent) {
-            return self.without_node(ARGUMENT);
-        }
-        if id == SUPER {
-            return self.without_node(ARGUMENT);
-        }
-        if !has_room(self.nodes, self.edges, 1, 1) {
-            return self.without_node(NO_ROOM);
-        }
-        let node = self.nodes as u16;
-        let table = self.with_child(parent, id, value);
-        Inserted {
-            table,
-            answer: Node::Is(node),
+        match growth::may_insert(&self.links, self.edges, self.nodes, parent, id) {
+            Outcome::Refused(why) => self.without_node(why),
+            Outcome::Done => {
+                let node = self.nodes as u16;
+                let table = self.with_child(parent, id, value);
+                Inserted {
+                    table,
+                    answer: Node::Is(node),
+                }
+            }
         }
     }
 
@@ -153,46 +130,34 @@ impl SymbolTable {
     pub fn export(self, node: u16, parent: u16, path: &[u16]) -> Changed
         ensures { λ r. ⌜ saysChanged r ≡ left self (export self node parent (now (path .entry))) ⌝ }
     {
-        if !is_node(&self.links, self.edges, self.nodes, parent) {
-            return self.unchanged(ARGUMENT);
+        match growth::may_export(&self.links, self.edges, self.nodes, node, parent, path) {
+            Growth::Refused(why) => self.unchanged(why),
+            Growth::From(there) => {
+                let depth = there.depth;
+                let last = path.len() - 1;
+                let made = self.grown(there.node, &path[depth..last]);
+                let table = made.table;
+                done(table.with_edge(made.node, path[last], node))
+            }
         }
-        if self.nodes <= wide(node) {
-            return self.unchanged(ARGUMENT);
-        }
-        if !is_new_path(path) {
-            return self.unchanged(ARGUMENT);
-        }
-        if path.len() == 0 {
-            return self.unchanged(ARGUMENT);
-        }
-        let last = path.len() - 1;
-        let there = edges::deepest(&self.links, self.edges, parent, &path[0..last]);
-        let depth = there.depth;
-        self.export_from(node, there.node, &path[depth..last], path[last])
     }
 
     // The node at the end of a path, whose missing nodes are made.
     pub fn ensure_index(self, nx: u16, path: &[u16]) -> Inserted
         ensures { λ r. ⌜ saysInserted r ≡ leftNode self (ensureIndex self nx (now (path .entry))) ⌝ }
     {
-        if !is_node(&self.links, self.edges, self.nodes, nx) {
-            return self.without_node(ARGUMENT);
-        }
-        if !is_new_path(path) {
-            return self.without_node(ARGUMENT);
-        }
-        let there = edges::deepest(&self.links, self.edges, nx, path);
-        let depth = there.depth;
-        let missing = path.len() - depth;
-        if !has_room(self.nodes, self.edges, missing, missing) {
-            return self.without_node(NO_ROOM);
-        }
-        let made = self.grown(there.node, &path[depth..]);
-        let node = made.node;
-        let table = made.table;
-        Inserted {
-            table,
-            answer: Node::Is(node),
+        match growth::may_ensure(&self.links, self.edges, self.nodes, nx, path) {
+            Growth::Refused(why) => self.without_node(why),
+            Growth::From(there) => {
+                let depth = there.depth;
+                let made = self.grown(there.node, &path[depth..]);
+                let node = made.node;
+                let table = made.table;
+                Inserted {
+                    table,
+                    answer: Node::Is(node),
+                }
+            }
         }
     }
 
@@ -206,7 +171,7 @@ impl SymbolTable {
         if LONGEST < path.len() {
             return Found::Refused(ARGUMENT);
         }
-        answer(edges::walk(&self.links, self.edges, nx, path))
+        scopes::answer(edges::walk(&self.links, self.edges, nx, path))
     }
 
     // The node that a node was last put under.
@@ -216,7 +181,7 @@ impl SymbolTable {
         if !is_node(&self.links, self.edges, self.nodes, nx) {
             return Found::Refused(ARGUMENT);
         }
-        answer(edges::parent(&self.links, self.edges, nx))
+        scopes::answer(edges::parent(&self.links, self.edges, nx))
     }
 
     // The node that a name means in a node.
@@ -229,20 +194,14 @@ impl SymbolTable {
         if id == SUPER {
             return Found::Refused(ARGUMENT);
         }
-        answer(edges::child(&self.links, self.edges, nx, id))
+        scopes::answer(edges::child(&self.links, self.edges, nx, id))
     }
 
     // The node that a path means in a scope: the innermost scope decides in which the whole path is found.
     pub fn query(self, nx: u16, path: &[u16]) -> Found
         ensures { λ r. ⌜ saysFound r ≡ query self nx (now (path .entry)) ⌝ }
     {
-        if !is_node(&self.links, self.edges, self.nodes, nx) {
-            return Found::Refused(ARGUMENT);
-        }
-        if LONGEST < path.len() {
-            return Found::Refused(ARGUMENT);
-        }
-        answer(edges::query(&self.links, self.edges, nx, path))
+        scopes::query(&self.links, self.edges, self.nodes, nx, path)
     }
 
     // The nodes that a path means in a scope and in each scope around it, and how many they are.
@@ -250,37 +209,7 @@ impl SymbolTable {
         ensures { λ r. ⌜ (saysCount r ≡ mapped length (queryAll self nx (now (path .entry)) (length (now (list .entry)))))
             × (now (list .exit) ≡ listAfter (now (list .entry)) (queryAll self nx (now (path .entry)) (length (now (list .entry))))) ⌝ }
     {
-        if !is_node(&self.links, self.edges, self.nodes, nx) {
-            return Count::Refused(ARGUMENT);
-        }
-        if LONGEST < path.len() {
-            return Count::Refused(ARGUMENT);
-        }
-        if list.len() != NODES {
-            return Count::Refused(ARGUMENT);
-        }
-        edges::fill(list, 0);
-        Count::Is(edges::query_all(&self.links, self.edges, nx, path, list))
-    }
-
-    // The export behind its first tests: `names` are missing below `parent`, and the edge gets the name `id`.
-    fn export_from(self, node: u16, parent: u16, names: &[u16], id: u16) -> Changed
-        requires { ⌜ (sound self ≡ true) × (parent < self .nodes) ⌝ }
-        ensures { λ r. ⌜ saysChanged r ≡ left self (exportFrom self node (parent, now (names .entry)) id) ⌝ }
-    {
-        if edges::on_chain(&self.links, self.edges, parent, node) {
-            return self.unchanged(LOOP);
-        }
-        let missing = names.len();
-        if is_taken(&self.links, self.edges, missing, parent, id, node) {
-            return self.unchanged(NAME_TAKEN);
-        }
-        if !has_room(self.nodes, self.edges, missing, missing + 1) {
-            return self.unchanged(NO_ROOM);
-        }
-        let made = self.grown(parent, names);
-        let table = made.table;
-        done(table.with_edge(made.node, id, node))
+        scopes::query_all(&self.links, self.edges, self.nodes, nx, path, list)
     }
 
     // New nodes below s, one below the other, by these names.
@@ -376,30 +305,6 @@ fn done(table: SymbolTable) -> Changed
     }
 }
 
-// The query in the edges of a table that are lent, for who asks many: nothing is tested but that the edges and the path are no
-// more than fit. Of a sound table it is the table's own query.
-pub fn query_edges(links: &[u16; WORDS], edges: usize, nx: u16, path: &[u16]) -> Found
-    ensures { λ r. ⌜ saysFound r ≡ queryEdges (now (links .entry)) edges nx (now (path .entry)) ⌝ }
-{
-    if EDGES < edges {
-        return Found::Refused(ARGUMENT);
-    }
-    if LONGEST < path.len() {
-        return Found::Refused(ARGUMENT);
-    }
-    answer(edges::query_any(links, edges, nx, path))
-}
-
-// The answer of a look-up.
-fn answer(reached: Reached) -> Found
-    ensures { λ r. ⌜ saysFound r ≡ Done (saysReached reached) ⌝ }
-{
-    match reached {
-        Reached::At(node) => Found::At(node),
-        Reached::Nothing => Found::Nothing,
-    }
-}
-
 // The number of node nx, if it has one.
 fn number_at<'a>(known: &'a [bool; NODES], number: &'a [i64; NODES], nx: u16) -> Got
     requires { ⌜ nx < maxNodes ⌝ }
@@ -430,53 +335,4 @@ pub fn number_or_0(value: Data) -> i64
         Data::Number(number) => number,
         Data::Unresolved => 0,
     }
-}
-
-// A node's number as an index.
-fn wide(nx: u16) -> usize
-    ensures { λ r. ⌜ r ≡ nx ⌝ }
-{
-    nx as usize
-}
-
-// Whether there is room for n more nodes and k more edges.
-fn has_room(nodes: usize, edges: usize, n: usize, k: usize) -> bool
-    requires { ⌜ (nodes ≤ maxNodes) × (edges ≤ maxEdges) ⌝ }
-    ensures { λ r. ⌜ r ≡ room (nodes + n) (edges + k) ⌝ }
-{
-    if NODES - nodes < n {
-        return false;
-    }
-    k <= EDGES - edges
-}
-
-// Whether the name leads elsewhere already; where nodes are missing, it leads nowhere.
-fn is_taken(links: &[u16; WORDS], edges: usize, missing: usize, s: u16, x: u16, to: u16) -> bool
-    requires { ⌜ edges ≤ maxEdges ⌝ }
-    ensures { λ r. ⌜ r ≡ (eqb missing 0 && taken (edgesIn (now (links .entry)) edges) s x to) ⌝ }
-{
-    if missing != 0 {
-        return false;
-    }
-    edges::is_taken(links, edges, s, x, to)
-}
-
-// Whether the table is sound, and nx a node of it.
-pub fn is_node(links: &[u16; WORDS], edges: usize, nodes: usize, nx: u16) -> bool
-    ensures { λ r. ⌜ r ≡ (soundEdges nodes edges (edgesIn (now (links .entry)) edges) && ltb nx nodes) ⌝ }
-{
-    if !soundness::is_sound(links, edges, nodes) {
-        return false;
-    }
-    wide(nx) < nodes
-}
-
-// Whether a table may be given the path: not too long, and no super in it.
-fn is_new_path(path: &[u16]) -> bool
-    ensures { λ r. ⌜ r ≡ isNewPath (now (path .entry)) ⌝ }
-{
-    if LONGEST < path.len() {
-        return false;
-    }
-    !edges::has_super(path)
 }

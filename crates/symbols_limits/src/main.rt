@@ -4,9 +4,9 @@
 use libc::STDOUT_FILENO;
 use refusals::Outcome;
 use symbols::Changed;
-use symbols::Count;
+use scopes::Count;
 use symbols::Data;
-use symbols::Found;
+use scopes::Found;
 use symbols::Got;
 use symbols::Inserted;
 use symbols::Node;
@@ -426,35 +426,35 @@ fn lent(table: SymbolTable) {
     print_word(b"lent, with a loop");
     found(
         b" by 5 from 1",
-        symbols::query_edges(&table.links, 2, 1, &ids[0..1]),
+        scopes::query_edges(&table.links, 2, 1, &ids[0..1]),
     );
     found(
         b" by 5 5 5 5 from 1",
-        symbols::query_edges(&table.links, 2, 1, &ids[0..4]),
+        scopes::query_edges(&table.links, 2, 1, &ids[0..4]),
     );
     found(
         b" by 6 from 1",
-        symbols::query_edges(&table.links, 2, 1, &ids[4..5]),
+        scopes::query_edges(&table.links, 2, 1, &ids[4..5]),
     );
     found(
         b" by 6 from 9",
-        symbols::query_edges(&table.links, 2, 9, &ids[4..5]),
+        scopes::query_edges(&table.links, 2, 9, &ids[4..5]),
     );
     found(
         b" by no id from 9",
-        symbols::query_edges(&table.links, 2, 9, &ids[0..0]),
+        scopes::query_edges(&table.links, 2, 9, &ids[0..0]),
     );
-    found(b" five ids", symbols::query_edges(&table.links, 2, 1, &ids));
+    found(b" five ids", scopes::query_edges(&table.links, 2, 1, &ids));
     found(
         b" 2048 edges",
-        symbols::query_edges(&table.links, 2048, 1, &ids[0..1]),
+        scopes::query_edges(&table.links, 2048, 1, &ids[0..1]),
     );
     found(
         b" 2049 edges",
-        symbols::query_edges(&table.links, 2049, 1, &ids[0..1]),
+        scopes::query_edges(&table.links, 2049, 1, &ids[0..1]),
     );
     found(
         b" 2^64 - 1 edges",
-        symbols::query_edges(&table.links, 18446744073709551615, 1, &ids[0..1]),
+        scopes::query_edges(&table.links, 18446744073709551615, 1, &ids[0..1]),
     );
 }

@@ -11,7 +11,7 @@ use lib.ListN.{length, getD, set, replicate, length-append, length-map, length-r
 use lib.Seq.{set-append-seam, append-snoc, ext-getD}
 use borrow.Author.Tests.{lt-ltb, le-ltb}
 use Rattle.refusals.specs.Answer.{pick}
-use Rattle.symbols.specs.Edges.{maxNodes}
+use Rattle.edges.specs.Edges.{maxNodes}
 use Rattle.symbols.specs.Symbols.{numberAt, isKnown, numberOr0}
 use Rattle.walk.specs.declared.Numbers.{Numbers}
 use Rattle.walk.specs.Values.{Values, numbered}

@@ -6,7 +6,7 @@ use Prim.Native.Nat.{ℕ, _+_, _<_}
 use native.Mathlib.Omega.{arith}
 use lib.ListN.{length, getD}
 use Rattle.refusals.specs.Answer.{pick}
-use Rattle.symbols.specs.Edges.{maxNodes}
+use Rattle.edges.specs.Edges.{maxNodes}
 use Rattle.tape.specs.Record.{bytesAt}
 use Rattle.form.specs.Form.{declares, isNumbered}
 use Rattle.form.specs.Statements.{isInner, isLast, statementsAt}

@@ -8,7 +8,7 @@ use lib.Dec.{ltb}
 use lib.IntN.{ℤ, pos}
 use lib.ListN.{length, getD, replicate}
 use Rattle.refusals.specs.Answer.{pick}
-use Rattle.symbols.specs.Edges.{maxNodes}
+use Rattle.edges.specs.Edges.{maxNodes}
 use Rattle.symbols.specs.Symbols.{numberAt, isKnown, numberOr0}
 use Rattle.form.specs.Form.{maxDepth}
 use Rattle.form.specs.Statements.{isFollowed, whatOf}

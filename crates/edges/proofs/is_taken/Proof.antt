@@ -1,0 +1,77 @@
+-- The scan goes down from the last edge, as in child. Assumes nothing.
+use mathlib.Core.Path.{_≡_, sym, ap, _∙_}
+use Prim.Native.Nat.{ℕ, _≤_}
+use native.Mathlib.Omega.{arith}
+use Rattle.edges.specs.Edges.{maxEdges, taken, edgesIn, held}
+use Rattle.edges.proofs.Laws as laws
+use borrow.Author.Needs.{needs}
+use Rattle.edges.proofs.is_taken.Statement.{statement}
+use Rattle.edges.proofs.is_taken.Tie as tie
+
+abbrev Inv-loop : tie.InvT-loop
+Inv-loop links n s x to i₀ i = (i ≤ maxEdges) × (taken (held links n) s x to ≡ taken (edgesIn links i) s x to)
+
+abbrev μ-loop : tie.MeasureT-loop
+μ-loop links n s x to i₀ i = i
+
+at-most-requires : tie.Need-at-most-requires Inv-loop μ-loop
+at-most-requires c κs = search needs
+
+loop-holds : tie.Need-loop-holds Inv-loop μ-loop
+loop-holds c =
+    let a = c .before .args in
+    (search needs, ap (λ (k : ℕ). taken (edgesIn (a .links .now) k) (a .s) (a .x) (a .to)) (sym (c .at-most .ensures)))
+
+sub-i : tie.Need-sub-i Inv-loop μ-loop
+sub-i c = search needs
+
+edge-in-requires : tie.Need-edge-in-requires Inv-loop μ-loop
+edge-in-requires c κs = search needs
+
+leads-elsewhere-requires : tie.Need-leads-elsewhere-requires Inv-loop μ-loop
+leads-elsewhere-requires c κs = search needs
+
+returns : tie.Need-returns Inv-loop μ-loop
+returns c =
+    let told = c .before in
+    let turn = told .before .before in
+    let at-loop = turn .before in
+    let elsewhere = sym (told .leads-elsewhere .ensures) ∙ c .if1 .taken in
+    sym (at-loop .loop .inv .1 ∙ laws.taken-here _ _ (turn .loop-test .taken) (told .before .edge-in .ensures) _ _ _ elsewhere)
+
+loop-less : tie.Need-loop-less Inv-loop μ-loop
+loop-less c = search needs
+
+loop-again : tie.Need-loop-again Inv-loop μ-loop
+loop-again c =
+    let told = c .before in
+    let turn = told .before .before in
+    let at-loop = turn .before in
+    let not-elsewhere = sym (told .leads-elsewhere .ensures) ∙ c .if1 .left in (
+      search needs,
+      at-loop .loop .inv .1
+          ∙ laws.taken-other _ _ (turn .loop-test .taken) (told .before .edge-in .ensures) _ _ _ not-elsewhere,
+    )
+
+returns-2 : tie.Need-returns-2 Inv-loop μ-loop
+unfolding taken edgesIn
+returns-2 c =
+    let at-loop = c .before in
+    let none-left : at-loop .loop .i ≡ 0 = omega arith in
+    sym (at-loop .loop .inv .1 ∙ rw none-left)
+
+pub is-taken-spec : {M : Type 1} → statement M
+is-taken-spec =
+    tie.close
+    (tie.spec
+    Inv-loop
+    μ-loop
+    at-most-requires
+    loop-holds
+    sub-i
+    edge-in-requires
+    leads-elsewhere-requires
+    returns
+    loop-less
+    loop-again
+    returns-2)
