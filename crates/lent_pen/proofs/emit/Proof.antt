@@ -1,34 +1,34 @@
--- `Pen::emit` meets its contract, by a walk through its code: the lent pen's borrow is opened and the pen taken out; `emit`, of which
--- only its contract is known, is given it with the image, for good, and with a copy of what the bytes own; the pen that comes back is
+-- `emit` meets its contract, by a walk through its code: the lent pen's borrow is opened and the pen taken out; segment's `emit`, of
+-- which only its contract is known, is given it with the image, for good, and with a copy of what the bytes own; the pen that comes back is
 -- stored where the old one was, and the borrow is closed at it. Assumes nothing.
-use Rattle.segment.proofs.Walk.{_≡_, refl, ap, ℕ, [], _∷_, List, length, URA, fullShare, named, Val, vptr, SProp, ent, sep, emp}
-use Rattle.segment.proofs.Walk.{via, fst∗, id⊢, GName, Lft, Share, Fml, ftrue, fat, flft, fobs, fbor, Memory, Routine, Heap, Calls}
-use Rattle.segment.proofs.Walk.{Loops, WpFn, Tables, Atoms, sem, Fun, fact, givenOf, tables, tablesOf, AllOutlive, FmC, fmOf}
-use Rattle.segment.proofs.Walk.{WpFn-mono, Given, ‵, raw, some, later, _⊛_, ⋆, _$_, _∵_, !, qed, by, move, keep, drop, use1, use2}
-use Rattle.segment.proofs.Walk.{split, join, pick, rewrite, fsplit, fsplit3, fjoin, fjoin3, feqL, feqI, suffices, frame, await}
-use Rattle.segment.proofs.Walk.{done, look, look-raw, store-raw, init, forget, stop, hop, fld, from, load, addr, of-opd, and-then}
-use Rattle.segment.proofs.Walk.{no-more, assigns, land, returns, enter, alloc1, alloc0, params1, pass1, pass0, free1, free0, agg}
-use Rattle.segment.proofs.Walk.{whole, sub, look-in, Body, owns, mem, u8, yes, RefT, MutRef, ptr-vals, mut-tells, sliceVal}
-use Rattle.segment.proofs.Walk.{MutSlice, ShrSlice, Room, finally, slice-vals, mut-slice-tells, shr-slice-tells, shr-slice-copy}
-use Rattle.segment.proofs.Walk.{plain, only, heard, nothing, onEntry, Meets, tripleOf, Contract, Triple, calls-at, ensured, lasts}
-use Rattle.segment.proofs.Walk.{entered, cited, says, Stays, stay-ref, gave-slice, stay-none-slice, walkOf, goes-ref}
-use Rattle.segment.proofs.Walk.{goes-gave-slice, goes-none-slice, Walks, ends-at, walked, walk-meets}
+use Rattle.lent_pen.proofs.Walk.{_≡_, refl, ap, ℕ, [], _∷_, List, length, URA, fullShare, named, Val, vptr, SProp, ent, sep, emp}
+use Rattle.lent_pen.proofs.Walk.{via, fst∗, id⊢, GName, Lft, Share, Fml, ftrue, fat, flft, fobs, fbor, Memory, Routine, Heap, Calls}
+use Rattle.lent_pen.proofs.Walk.{Loops, WpFn, Tables, Atoms, sem, Fun, fact, givenOf, tables, tablesOf, AllOutlive, FmC, fmOf}
+use Rattle.lent_pen.proofs.Walk.{WpFn-mono, Given, ‵, raw, some, later, _⊛_, ⋆, _$_, _∵_, !, qed, by, move, keep, drop, use1, use2}
+use Rattle.lent_pen.proofs.Walk.{split, join, pick, rewrite, fsplit, fsplit3, fjoin, fjoin3, feqL, feqI, suffices, frame, await}
+use Rattle.lent_pen.proofs.Walk.{done, look, look-raw, store-raw, init, forget, stop, hop, fld, from, load, addr, of-opd, and-then}
+use Rattle.lent_pen.proofs.Walk.{no-more, assigns, land, returns, enter, alloc1, alloc0, params1, pass1, pass0, free1, free0, agg}
+use Rattle.lent_pen.proofs.Walk.{whole, sub, look-in, Body, owns, mem, u8, yes, RefT, MutRef, ptr-vals, mut-tells, sliceVal}
+use Rattle.lent_pen.proofs.Walk.{MutSlice, ShrSlice, Room, finally, slice-vals, mut-slice-tells, shr-slice-tells, shr-slice-copy}
+use Rattle.lent_pen.proofs.Walk.{plain, only, heard, nothing, onEntry, Meets, tripleOf, Contract, Triple, calls-at, ensured, lasts}
+use Rattle.lent_pen.proofs.Walk.{entered, cited, says, Stays, stay-ref, gave-slice, stay-none-slice, walkOf, goes-ref}
+use Rattle.lent_pen.proofs.Walk.{goes-gave-slice, goes-none-slice, Walks, ends-at, walked, walk-meets}
 use Rattle.segment.specs.declared.Pen.{Pen}
 use Rattle.segment.specs.declared.Drawn.{Drawn}
 use Rattle.segment.specs.Segment as by-value
 use Rattle.segment.specs.Says.{saysDrawn, left}
 use Rattle.segment.proofs.Pen as P
 use Rattle.segment.proofs.Drawn as D
 use Rattle.segment.proofs.Drawn.Laws as D′
-use Rattle.segment.proofs.Parts.{pens, outcomes, IsOutcome, drawn-tells, is-pen, is-answer, pen-typed, drawn-typed, outcome-typed}
-use Rattle.segment.proofs.Parts.{owned-outcome, peeks-drawn, opens-pen, closes-pen}
+use Rattle.lent_pen.proofs.Parts.{pens, outcomes, IsOutcome, drawn-tells, is-pen, is-answer, pen-typed, drawn-typed, outcome-typed}
+use Rattle.lent_pen.proofs.Parts.{owned-outcome, peeks-drawn, opens-pen, closes-pen}
 use Rattle.segment.proofs.emit as callee
 use Rattle.segment.proofs.emit.Symbol as callee-code
 use Rattle.segment.proofs.emit.Met as callee-met
-use Rattle.segment.proofs.Pen.emit.Key.{name}
-use Rattle.segment.proofs.Pen.emit as f
-use Rattle.segment.proofs.Pen.emit.Statement as stated
-use Rattle.segment.proofs.Pen.emit.Code as code
+use Rattle.lent_pen.proofs.emit.Key.{name}
+use Rattle.lent_pen.proofs.emit as f
+use Rattle.lent_pen.proofs.emit.Statement as stated
+use Rattle.lent_pen.proofs.emit.Code as code
 
 -- the pen is lent to the end, the image is passed on, and the bytes are only read
 abbrev stayed : Stays (f.ended .signature .params) (f.ended .kept)

@@ -1,38 +1,38 @@
--- `lend` meets its contract, by a walk through its code: a new pen in a local is lent to `Pen::emit`, to `Pen::set_pc` and to `Pen::emit`
--- again, each time for the call alone. The image is lent on for the first emit and comes back; the second has it for good. All that is
+-- `lend` meets its contract, by a walk through its code: a new pen in a local is lent to `emit`, to `set_pc` and to `emit` again,
+-- each time for the call alone. The image is lent on for the first emit and comes back; the second has it for good. All that is
 -- known of the calls is their contracts. Assumes nothing.
-use Rattle.segment.proofs.Walk.{_≡_, refl, ap, _∙_, ℕ, _<_, _^_, [], _∷_, List, length, URA, fullShare, named, w64, Val, vint}
-use Rattle.segment.proofs.Walk.{SProp, ent, emp, via, fst∗, snd∗, exE, id⊢, GName, Lft, Share, Fml, ftrue, fat, flft, Memory}
-use Rattle.segment.proofs.Walk.{Routine, Heap, Calls, Loops, WpFn, Tables, Atoms, sem, Fun, fact, givenOf, tables, tablesOf}
-use Rattle.segment.proofs.Walk.{AllOutlive, FmC, fmOf, WpFn-mono, Given, ‵, raw, some, later, _⊛_, ⋆, _$_, _∵_, !, qed, by, move}
-use Rattle.segment.proofs.Walk.{keep, drop, use0, use1, split, join, pick, rewrite, fsplit, fjoin, suffices, frame, await, done}
-use Rattle.segment.proofs.Walk.{look, store, init, forget, stop, hop, fld, from, load, addr, of-opd, and-then, no-more, assigns}
-use Rattle.segment.proofs.Walk.{land, returns, enter, alloc1, alloc0, params1, pass1, pass0, free1, free0, agg, whole, sub}
-use Rattle.segment.proofs.Walk.{look-in, owns, Is, shows, mem, uint-vals, uint-tells, uint-makes, u8, usize, yes, RefT, sliceVal}
-use Rattle.segment.proofs.Walk.{MutSlice, ShrSlice, Room, finally, slice-vals, mut-slice-tells, shr-slice-tells, shr-slice-copy}
-use Rattle.segment.proofs.Walk.{plain, only, owned, peeks, heard, nothing, onEntry, Meets, tripleOf, Contract, Triple, calls-at}
-use Rattle.segment.proofs.Walk.{ensured, lasts, entered, cited, says, Stays, stay-none, gave-slice, stay-none-slice, walkOf}
-use Rattle.segment.proofs.Walk.{goes-none, goes-gave-slice, goes-none-slice, Walks, ends-at, walked, walk-meets}
+use Rattle.lent_pen.proofs.Walk.{_≡_, refl, ap, _∙_, ℕ, _<_, _^_, [], _∷_, List, length, URA, fullShare, named, w64, Val, vint}
+use Rattle.lent_pen.proofs.Walk.{SProp, ent, emp, via, fst∗, snd∗, exE, id⊢, GName, Lft, Share, Fml, ftrue, fat, flft, Memory}
+use Rattle.lent_pen.proofs.Walk.{Routine, Heap, Calls, Loops, WpFn, Tables, Atoms, sem, Fun, fact, givenOf, tables, tablesOf}
+use Rattle.lent_pen.proofs.Walk.{AllOutlive, FmC, fmOf, WpFn-mono, Given, ‵, raw, some, later, _⊛_, ⋆, _$_, _∵_, !, qed, by, move}
+use Rattle.lent_pen.proofs.Walk.{keep, drop, use0, use1, split, join, pick, rewrite, fsplit, fjoin, suffices, frame, await, done}
+use Rattle.lent_pen.proofs.Walk.{look, store, init, forget, stop, hop, fld, from, load, addr, of-opd, and-then, no-more, assigns}
+use Rattle.lent_pen.proofs.Walk.{land, returns, enter, alloc1, alloc0, params1, pass1, pass0, free1, free0, agg, whole, sub}
+use Rattle.lent_pen.proofs.Walk.{look-in, owns, Is, shows, mem, uint-vals, uint-tells, uint-makes, u8, usize, yes, RefT, sliceVal}
+use Rattle.lent_pen.proofs.Walk.{MutSlice, ShrSlice, Room, finally, slice-vals, mut-slice-tells, shr-slice-tells, shr-slice-copy}
+use Rattle.lent_pen.proofs.Walk.{plain, only, owned, peeks, heard, nothing, onEntry, Meets, tripleOf, Contract, Triple, calls-at}
+use Rattle.lent_pen.proofs.Walk.{ensured, lasts, entered, cited, says, Stays, stay-none, gave-slice, stay-none-slice, walkOf}
+use Rattle.lent_pen.proofs.Walk.{goes-none, goes-gave-slice, goes-none-slice, Walks, ends-at, walked, walk-meets}
 use Rattle.refusals.specs.declared.Outcome.{Outcome}
 use Rattle.segment.specs.declared.Pen.{Pen}
 use Rattle.segment.specs.Segment.{begun}
-use Rattle.segment.specs.Steps.{emitOn, setOn, lentTo}
+use Rattle.lent_pen.specs.Steps.{emitOn, setOn, lentTo}
 use Rattle.segment.proofs.Pen as P
 use Rattle.segment.proofs.Pen.Laws as P′
-use Rattle.segment.proofs.Parts.{pens, IsPen, pen-tells, pen-spelt, pen-typed, typed-pen, typed-outcome, owned-pen}
-use Rattle.segment.proofs.Loans.{bytes-at, lends-image, image-back}
-use Rattle.segment.proofs.Calls.{SaidSet, SaidEmit, SetPc, Emit, calls-set, calls-emit}
+use Rattle.lent_pen.proofs.Parts.{pens, IsPen, pen-tells, pen-spelt, pen-typed, typed-pen, typed-outcome, owned-pen}
+use Rattle.lent_pen.proofs.Loans.{bytes-at, lends-image, image-back}
+use Rattle.lent_pen.proofs.Calls.{SaidSet, SaidEmit, SetPc, Emit, calls-set, calls-emit}
 use Rattle.segment.proofs.begin as begin
 use Rattle.segment.proofs.begin.Symbol as begin-code
 use Rattle.segment.proofs.begin.Met as begin-met
-use Rattle.segment.proofs.Pen.set_pc.Symbol as set-code
-use Rattle.segment.proofs.Pen.set_pc.Met as set-met
-use Rattle.segment.proofs.Pen.emit.Symbol as emit-code
-use Rattle.segment.proofs.Pen.emit.Met as emit-met
-use Rattle.segment.proofs.lent.lend.Key.{name}
-use Rattle.segment.proofs.lent.lend as f
-use Rattle.segment.proofs.lent.lend.Statement as stated
-use Rattle.segment.proofs.lent.lend.Code as code
+use Rattle.lent_pen.proofs.set_pc.Symbol as set-code
+use Rattle.lent_pen.proofs.set_pc.Met as set-met
+use Rattle.lent_pen.proofs.emit.Symbol as emit-code
+use Rattle.lent_pen.proofs.emit.Met as emit-met
+use Rattle.lent_pen.proofs.lend.Key.{name}
+use Rattle.lent_pen.proofs.lend as f
+use Rattle.lent_pen.proofs.lend.Statement as stated
+use Rattle.lent_pen.proofs.lend.Code as code
 
 -- the places are numbers, the image is passed on, and the bytes are only read
 abbrev stayed : Stays (f.ended .signature .params) (f.ended .kept)
@@ -158,7 +158,7 @@ module _ {M : Type 1} (𝓤 : URA M) (H : Heap 𝓤) (A : Atoms 𝓤) (at-mem : 
           land ! (from ! (stop !)) (init ! 25 refl (typed-pen 𝓤 H A W p₀ w is)) $ drop ! $
           rewrite ! 24 (λ (u : Val). ‵ (fat fullShare P′.mir l₇ 0 u)) (ap only (pen-tells p₀ _ is)) refl $
           assigns ! (of-opd ! (load ! (from ! (stop !)) (look ! 24 refl))) (from ! (stop !)) (init ! 26 refl (pen-typed 𝓤 H A W p₀ (pen-spelt p₀ _ is))) $
-          -- `Pen::emit`
+          -- `emit`
           assigns ! (addr ! (from ! (stop !))) (from ! (stop !)) (init ! 20 refl (tt, tt)) $
           assigns ! (addr ! (from ! (fld ! refl (hop ! (look-in ! 34 (sub ! 0 refl (whole !))) (stop !))))) (from ! (stop !)) (init ! 18 refl (tt, tt)) $
           assigns ! (agg ! (and-then ! (load ! (from ! (stop !)) (look ! 18 refl))
@@ -173,14 +173,14 @@ module _ {M : Type 1} (𝓤 : URA M) (H : Heap 𝓤) (A : Atoms 𝓤) (at-mem : 
           land ! (from ! (stop !)) (init ! 26 refl (typed-outcome 𝓤 H A W a₁ w₁ isa₁)) $
           move ! (2 ∷ 4 ∷ 1 ∷ 5 ∷ 6 ∷ 7 ∷ []) $ image-back ! tt (named 0) ys ys₁ b o room len₁ $
           -- [the image; the image's token; the pen; first's token; second; second, kept; first, kept; second's token; the locals]
-          -- `Pen::set_pc`
+          -- `set_pc`
           assigns ! (addr ! (from ! (stop !))) (from ! (stop !)) (init ! 14 refl (tt, tt)) $
           move ! (2 ∷ []) $ calls-set ! fm at-mem run known-set p₁ is₁ l₆ j j-fits
           (λ _ _. and-then ! (load ! (from ! (stop !)) (look ! 15 refl)) (and-then ! (load ! (from ! (stop !)) (look ! 30 refl)) (no-more !)))
           (λ w₂ a₂ p₂ isa₂ is₂ e₂.
           land ! (from ! (stop !)) (store ! 22 refl (typed-outcome 𝓤 H A W a₂ w₂ isa₂)) $
           -- [the pen; the image; the image's token; first's token; second; second, kept; first, kept; second's token; the locals]
-          -- `Pen::emit`
+          -- `emit`
           assigns ! (addr ! (from ! (stop !))) (from ! (stop !)) (init ! 12 refl (tt, tt)) $
           assigns ! (addr ! (from ! (fld ! refl (hop ! (look-in ! 33 (sub ! 0 refl (whole !))) (stop !))))) (from ! (stop !)) (init ! 10 refl (tt, tt)) $
           assigns ! (agg ! (and-then ! (load ! (from ! (stop !)) (look ! 10 refl))
@@ -258,5 +258,5 @@ lend-spec 𝓤 H 𝓜 𝓖 𝓡 =
     (tables 𝓤 H 𝓜 𝓡 code.env .C) (tables 𝓤 H 𝓜 𝓡 code.env .Λ) name code.function (code.unfolded 𝓤 H 𝓜 𝓡)
     (meets 𝓤 H (𝓖 .A) (𝓜 .mem) (𝓡 .run) (givenOf 𝓤 H 𝓜 𝓖) (tablesOf 𝓤 H 𝓜 (tables 𝓤 H 𝓜 𝓡 code.env))
     (cited 𝓤 H (Begin 𝓤 H (𝓖 .A) (𝓜 .mem) (𝓡 .run)) 𝓜 𝓡 code.env begin-code.name begin-code.routine code.calls-segment·begin (begin-met.met 𝓤 H 𝓜 𝓖 𝓡))
-    (cited 𝓤 H (SetPc 𝓤 H (𝓖 .A) (𝓜 .mem) (𝓡 .run)) 𝓜 𝓡 code.env set-code.name set-code.routine code.calls-segment·Pen·set-pc (set-met.met 𝓤 H 𝓜 𝓖 𝓡))
-    (cited 𝓤 H (Emit 𝓤 H (𝓖 .A) (𝓜 .mem) (𝓡 .run)) 𝓜 𝓡 code.env emit-code.name emit-code.routine code.calls-segment·Pen·emit (emit-met.met 𝓤 H 𝓜 𝓖 𝓡)))
+    (cited 𝓤 H (SetPc 𝓤 H (𝓖 .A) (𝓜 .mem) (𝓡 .run)) 𝓜 𝓡 code.env set-code.name set-code.routine code.calls-lent-pen·set-pc (set-met.met 𝓤 H 𝓜 𝓖 𝓡))
+    (cited 𝓤 H (Emit 𝓤 H (𝓖 .A) (𝓜 .mem) (𝓡 .run)) 𝓜 𝓡 code.env emit-code.name emit-code.routine code.calls-lent-pen·emit (emit-met.met 𝓤 H 𝓜 𝓖 𝓡)))

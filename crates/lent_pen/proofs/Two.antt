@@ -12,12 +12,12 @@ use Rattle.refusals.specs.Answer.{Answer, Done, Refused, andThen}
 use Rattle.refusals.specs.Table.{argument, outside}
 use Rattle.refusals.proofs.Pick.{at-false}
 use Rattle.refusals.proofs.Never.{never}
 use Rattle.segment.specs.declared.Pen.{Pen}
 use Rattle.segment.specs.Segment.{size, sound, soundOver, ofPen, ofBoth, begun, new, setPc, fits, widened, emit, imageAfter, range}
-use Rattle.segment.specs.Two.{two, rangeOfTwo, lastOf, imageOfTwo}
-use Rattle.segment.specs.Steps.{lentTo}
+use Rattle.lent_pen.specs.Two.{two, rangeOfTwo, lastOf, imageOfTwo}
+use Rattle.lent_pen.specs.Steps.{lentTo}
 use Rattle.segment.proofs.Laws.{sound-has, sound-is, sound-over-has, new-is}
 use Rattle.segment.proofs.Kept.{set-pc-sound, emit-sound, emit-length}
 
 -- ---- one call
 

@@ -34,19 +34,19 @@ use denote.Triple.Clauses.{ensured, lasts}
 use Rattle.refusals.specs.declared.Outcome.{Outcome}
 use Rattle.refusals.specs.Says.{says}
 use Rattle.refusals.proofs.Outcome as O
 use Rattle.segment.specs.declared.Pen.{Pen}
 use Rattle.segment.specs.Segment as by-value
 use Rattle.segment.specs.Says.{left}
 use Rattle.segment.proofs.Pen as P
 use Rattle.segment.proofs.Pen.Laws as P′
-use Rattle.segment.proofs.Pen.reset as reset
-use Rattle.segment.proofs.Pen.reset.Symbol as reset-code
-use Rattle.segment.proofs.Pen.set_pc as set-pc
-use Rattle.segment.proofs.Pen.set_pc.Symbol as set-pc-code
-use Rattle.segment.proofs.Pen.emit as emit
-use Rattle.segment.proofs.Pen.emit.Symbol as emit-code
-use Rattle.segment.proofs.Parts.{pens, IsPen}
-use Rattle.segment.proofs.Loans.{pen-at, lends-pen, pen-back}
+use Rattle.lent_pen.proofs.reset as reset
+use Rattle.lent_pen.proofs.reset.Symbol as reset-code
+use Rattle.lent_pen.proofs.set_pc as set-pc
+use Rattle.lent_pen.proofs.set_pc.Symbol as set-pc-code
+use Rattle.lent_pen.proofs.emit as emit
+use Rattle.lent_pen.proofs.emit.Symbol as emit-code
+use Rattle.lent_pen.proofs.Parts.{pens, IsPen}
+use Rattle.lent_pen.proofs.Loans.{pen-at, lends-pen, pen-back}
 
 -- ---- what each call promises: of a pen p, an answer a and the pen p′ afterwards; an emit also of an image
 

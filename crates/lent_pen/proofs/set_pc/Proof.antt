@@ -1,33 +1,33 @@
--- `Pen::set_pc` meets its contract, by a walk through its code: the lent pen's borrow is opened and the pen taken out; `set_pc`, of which
--- only its contract is known, gives a `Drawn`; its pen is stored where the old one was, and the borrow is closed at it.
+-- `set_pc` meets its contract, by a walk through its code: the lent pen's borrow is opened and the pen taken out; segment's `set_pc`, of
+-- which only its contract is known, gives a `Drawn`; its pen is stored where the old one was, and the borrow is closed at it.
 -- Assumes nothing.
-use Rattle.segment.proofs.Walk.{_≡_, refl, ap, ℕ, _<_, _^_, [], _∷_, List, URA, fullShare, named, w64, Val, vint, vptr, SProp, ent}
-use Rattle.segment.proofs.Walk.{emp, via, fst∗, snd∗, exE, id⊢, GName, Lft, Share, ftrue, fat, flft, fobs, fbor, Memory, Routine}
-use Rattle.segment.proofs.Walk.{Heap, Calls, Loops, WpFn, Tables, Atoms, sem, Fun, fact, givenOf, tables, tablesOf, FmC, fmOf}
-use Rattle.segment.proofs.Walk.{WpFn-mono, Given, ‵, raw, some, later, _⊛_, ⋆, _$_, _∵_, !, qed, by, move, keep, drop, use1, split}
-use Rattle.segment.proofs.Walk.{join, pick, rewrite, fsplit, fsplit3, fjoin, fjoin3, feqI, suffices, frame, await, done, look}
-use Rattle.segment.proofs.Walk.{look-raw, store-raw, init, forget, stop, hop, fld, from, load, of-opd, and-then, no-more, assigns}
-use Rattle.segment.proofs.Walk.{land, returns, enter, alloc1, alloc0, params1, pass1, pass0, free1, free0, whole, sub, look-in}
-use Rattle.segment.proofs.Walk.{Body, owns, Is, mem, uint-vals, uint-tells, uint-makes, usize, yes, RefT, MutRef, ptr-vals}
-use Rattle.segment.proofs.Walk.{mut-tells, plain, only, owned, heard, nothing, onEntry, Meets, tripleOf, Contract, Triple}
-use Rattle.segment.proofs.Walk.{calls-at, ensured, lasts, entered, cited, says, Stays, stay-ref, stay-none, walkOf, goes-ref}
-use Rattle.segment.proofs.Walk.{goes-none, Walks, ends-at, walked, walk-meets}
+use Rattle.lent_pen.proofs.Walk.{_≡_, refl, ap, ℕ, _<_, _^_, [], _∷_, List, URA, fullShare, named, w64, Val, vint, vptr, SProp, ent}
+use Rattle.lent_pen.proofs.Walk.{emp, via, fst∗, snd∗, exE, id⊢, GName, Lft, Share, ftrue, fat, flft, fobs, fbor, Memory, Routine}
+use Rattle.lent_pen.proofs.Walk.{Heap, Calls, Loops, WpFn, Tables, Atoms, sem, Fun, fact, givenOf, tables, tablesOf, FmC, fmOf}
+use Rattle.lent_pen.proofs.Walk.{WpFn-mono, Given, ‵, raw, some, later, _⊛_, ⋆, _$_, _∵_, !, qed, by, move, keep, drop, use1, split}
+use Rattle.lent_pen.proofs.Walk.{join, pick, rewrite, fsplit, fsplit3, fjoin, fjoin3, feqI, suffices, frame, await, done, look}
+use Rattle.lent_pen.proofs.Walk.{look-raw, store-raw, init, forget, stop, hop, fld, from, load, of-opd, and-then, no-more, assigns}
+use Rattle.lent_pen.proofs.Walk.{land, returns, enter, alloc1, alloc0, params1, pass1, pass0, free1, free0, whole, sub, look-in}
+use Rattle.lent_pen.proofs.Walk.{Body, owns, Is, mem, uint-vals, uint-tells, uint-makes, usize, yes, RefT, MutRef, ptr-vals}
+use Rattle.lent_pen.proofs.Walk.{mut-tells, plain, only, owned, heard, nothing, onEntry, Meets, tripleOf, Contract, Triple}
+use Rattle.lent_pen.proofs.Walk.{calls-at, ensured, lasts, entered, cited, says, Stays, stay-ref, stay-none, walkOf, goes-ref}
+use Rattle.lent_pen.proofs.Walk.{goes-none, Walks, ends-at, walked, walk-meets}
 use Rattle.segment.specs.declared.Pen.{Pen}
 use Rattle.segment.specs.declared.Drawn.{Drawn}
 use Rattle.segment.specs.Segment as by-value
 use Rattle.segment.specs.Says.{saysDrawn, left}
 use Rattle.segment.proofs.Pen as P
 use Rattle.segment.proofs.Drawn as D
 use Rattle.segment.proofs.Drawn.Laws as D′
-use Rattle.segment.proofs.Parts.{pens, outcomes, IsOutcome, drawn-tells, is-pen, is-answer, pen-typed, drawn-typed, outcome-typed}
-use Rattle.segment.proofs.Parts.{owned-outcome, peeks-drawn, opens-pen, closes-pen}
+use Rattle.lent_pen.proofs.Parts.{pens, outcomes, IsOutcome, drawn-tells, is-pen, is-answer, pen-typed, drawn-typed, outcome-typed}
+use Rattle.lent_pen.proofs.Parts.{owned-outcome, peeks-drawn, opens-pen, closes-pen}
 use Rattle.segment.proofs.set_pc as callee
 use Rattle.segment.proofs.set_pc.Symbol as callee-code
 use Rattle.segment.proofs.set_pc.Met as callee-met
-use Rattle.segment.proofs.Pen.set_pc.Key.{name}
-use Rattle.segment.proofs.Pen.set_pc as f
-use Rattle.segment.proofs.Pen.set_pc.Statement as stated
-use Rattle.segment.proofs.Pen.set_pc.Code as code
+use Rattle.lent_pen.proofs.set_pc.Key.{name}
+use Rattle.lent_pen.proofs.set_pc as f
+use Rattle.lent_pen.proofs.set_pc.Statement as stated
+use Rattle.lent_pen.proofs.set_pc.Code as code
 
 -- the pen is lent to the end, and the place is a number
 abbrev stayed : Stays (f.ended .signature .params) (f.ended .kept)

@@ -1,32 +1,32 @@
--- `Pen::reset` meets its contract, by a walk through its code: the lent pen's borrow is opened and the pen taken out; `reset`, of which
--- only its contract is known, gives a `Drawn`; its pen is stored where the old one was, and the borrow is closed at it.
+-- `reset` meets its contract, by a walk through its code: the lent pen's borrow is opened and the pen taken out; segment's `reset`, of
+-- which only its contract is known, gives a `Drawn`; its pen is stored where the old one was, and the borrow is closed at it.
 -- Assumes nothing.
-use Rattle.segment.proofs.Walk.{_≡_, refl, ap, ℕ, [], _∷_, List, URA, fullShare, named, Val, vptr, SProp, ent, emp, via, fst∗}
-use Rattle.segment.proofs.Walk.{snd∗, exE, id⊢, GName, Lft, Share, ftrue, fat, flft, fobs, fbor, Memory, Routine, Heap, Calls}
-use Rattle.segment.proofs.Walk.{Loops, WpFn, Tables, Atoms, sem, Fun, fact, givenOf, tables, tablesOf, FmC, fmOf, WpFn-mono, Given}
-use Rattle.segment.proofs.Walk.{‵, raw, some, later, _⊛_, ⋆, _$_, _∵_, !, qed, by, move, keep, drop, use1, split, join, pick}
-use Rattle.segment.proofs.Walk.{rewrite, fsplit, fsplit3, fjoin, fjoin3, feqI, suffices, frame, await, done, look, look-raw}
-use Rattle.segment.proofs.Walk.{store-raw, init, forget, stop, hop, fld, from, load, of-opd, and-then, no-more, assigns, land}
-use Rattle.segment.proofs.Walk.{returns, enter, alloc1, alloc0, params1, pass1, pass0, free1, free0, whole, sub, look-in, Body}
-use Rattle.segment.proofs.Walk.{owns, mem, RefT, MutRef, ptr-vals, mut-tells, plain, only, heard, nothing, onEntry, Meets}
-use Rattle.segment.proofs.Walk.{tripleOf, Contract, Triple, calls-at, ensured, lasts, entered, cited, says, Stays, stay-ref}
-use Rattle.segment.proofs.Walk.{walkOf, goes-ref, Walks, ends-at, walked, walk-meets}
+use Rattle.lent_pen.proofs.Walk.{_≡_, refl, ap, ℕ, [], _∷_, List, URA, fullShare, named, Val, vptr, SProp, ent, emp, via, fst∗}
+use Rattle.lent_pen.proofs.Walk.{snd∗, exE, id⊢, GName, Lft, Share, ftrue, fat, flft, fobs, fbor, Memory, Routine, Heap, Calls}
+use Rattle.lent_pen.proofs.Walk.{Loops, WpFn, Tables, Atoms, sem, Fun, fact, givenOf, tables, tablesOf, FmC, fmOf, WpFn-mono, Given}
+use Rattle.lent_pen.proofs.Walk.{‵, raw, some, later, _⊛_, ⋆, _$_, _∵_, !, qed, by, move, keep, drop, use1, split, join, pick}
+use Rattle.lent_pen.proofs.Walk.{rewrite, fsplit, fsplit3, fjoin, fjoin3, feqI, suffices, frame, await, done, look, look-raw}
+use Rattle.lent_pen.proofs.Walk.{store-raw, init, forget, stop, hop, fld, from, load, of-opd, and-then, no-more, assigns, land}
+use Rattle.lent_pen.proofs.Walk.{returns, enter, alloc1, alloc0, params1, pass1, pass0, free1, free0, whole, sub, look-in, Body}
+use Rattle.lent_pen.proofs.Walk.{owns, mem, RefT, MutRef, ptr-vals, mut-tells, plain, only, heard, nothing, onEntry, Meets}
+use Rattle.lent_pen.proofs.Walk.{tripleOf, Contract, Triple, calls-at, ensured, lasts, entered, cited, says, Stays, stay-ref}
+use Rattle.lent_pen.proofs.Walk.{walkOf, goes-ref, Walks, ends-at, walked, walk-meets}
 use Rattle.segment.specs.declared.Pen.{Pen}
 use Rattle.segment.specs.declared.Drawn.{Drawn}
 use Rattle.segment.specs.Segment as by-value
 use Rattle.segment.specs.Says.{saysDrawn, left}
 use Rattle.segment.proofs.Pen as P
 use Rattle.segment.proofs.Drawn as D
 use Rattle.segment.proofs.Drawn.Laws as D′
-use Rattle.segment.proofs.Parts.{pens, outcomes, IsOutcome, drawn-tells, is-pen, is-answer, pen-typed, drawn-typed, outcome-typed}
-use Rattle.segment.proofs.Parts.{owned-outcome, peeks-drawn, opens-pen, closes-pen}
+use Rattle.lent_pen.proofs.Parts.{pens, outcomes, IsOutcome, drawn-tells, is-pen, is-answer, pen-typed, drawn-typed, outcome-typed}
+use Rattle.lent_pen.proofs.Parts.{owned-outcome, peeks-drawn, opens-pen, closes-pen}
 use Rattle.segment.proofs.reset as callee
 use Rattle.segment.proofs.reset.Symbol as callee-code
 use Rattle.segment.proofs.reset.Met as callee-met
-use Rattle.segment.proofs.Pen.reset.Key.{name}
-use Rattle.segment.proofs.Pen.reset as f
-use Rattle.segment.proofs.Pen.reset.Statement as stated
-use Rattle.segment.proofs.Pen.reset.Code as code
+use Rattle.lent_pen.proofs.reset.Key.{name}
+use Rattle.lent_pen.proofs.reset as f
+use Rattle.lent_pen.proofs.reset.Statement as stated
+use Rattle.lent_pen.proofs.reset.Code as code
 
 -- the pen is lent to the end
 abbrev stayed : Stays (f.ended .signature .params) (f.ended .kept)
