@@ -1,20 +1,40 @@
--- Laws of decoding: a row's operand, by its bytes; and an instruction by its first byte. Assumes nothing.
+-- Laws of decoding: that no row has more than two operand bytes; a row's operand, by its bytes; and an instruction by its first byte.
+-- Assumes nothing.
 use mathlib.Core.Path.{_≡_, refl, ap}
 use mathlib.Core.List.{List, [], _∷_}
 use Prim.Native.Nat.{ℕ, suc, _+_, _-_, _*_, _<_, _≤_}
 use native.Mathlib.Omega.{arith}
+use lib.Dec.{eqb}
 use lib.ListN.{length, getD, take, drop}
 use lib.Seq.{take-all}
 use borrow.Author.Tests.{le-leb, lt-leb}
 use Rattle.refusals.specs.Answer.{Answer, Done, Refused}
 use Rattle.refusals.specs.Table.{cutShort}
-use Rattle.opcodes.specs.declared.Row.{Row}
-use Rattle.opcodes.specs.declared.Known.{Known}
-use Rattle.opcodes.specs.Manual.{rowsOf}
-use Rattle.opcodes.specs.Decode.{Instruction, decodeRow, decodeOf}
-use Rattle.opcodes.specs.Says.{saysKnown}
 use Rattle.refusals.specs.Each.{Each}
-use Rattle.opcodes.proofs.Manual.{shortRow, short-rows}
+use Rattle.opcodes.specs.Manual.{Entry, _is_, pages}
+use Rattle.opcodes.proofs.Manual.{operand-limit, kept}
+use Rattle.inverse.specs.declared.Row.{Row}
+use Rattle.inverse.specs.declared.Known.{Known}
+use Rattle.inverse.specs.Inverse.{rowsIn, rowsFrom, rowsOf}
+use Rattle.inverse.specs.Decode.{Instruction, decodeRow, decodeOf}
+use Rattle.inverse.specs.Says.{saysKnown}
+
+-- ---- at most two operand bytes
+
+abbrev pub shortRow : Row → Type 0
+shortRow r = r .operand < 3
+
+rows-in : (opcode m : ℕ) (es : List Entry) (rows : List Row) → Each shortRow rows → Each shortRow (rowsIn opcode m es rows)
+rows-in opcode m [] rows h = h
+rows-in opcode m ((k is op) ∷ es) rows h = kept shortRow (eqb op opcode) _ _ (operand-limit k) (rows-in opcode m es rows h)
+
+rows-from : (opcode m : ℕ) (ps : List (List Entry)) → Each shortRow (rowsFrom opcode m ps)
+rows-from opcode m [] = tt
+rows-from opcode m (p ∷ ps) = rows-in opcode m p _ (rows-from opcode (suc m) ps)
+
+short-rows : (opcode : ℕ) → Each shortRow (rowsOf opcode)
+unfolding rowsOf
+short-rows opcode = rows-from opcode 0 pages
 
 -- ---- a row
 

@@ -1,11 +1,11 @@
--- `opcodes::from_place` meets its contract: the offset is in an i64, or far out of reach. Assumes nothing.
+-- `branch::from_place` meets its contract: the offset is in an i64, or far out of reach. Assumes nothing.
 use mir.Facts.{toZ-ofZ}
 use mir.Syntax.{w64}
 use mir.Val.{SFits}
 use borrow.Author.Needs.{needs}
-use Rattle.opcodes.proofs.Branch.{two-off, two-out}
-use Rattle.opcodes.proofs.from_place.Statement.{statement}
-use Rattle.opcodes.proofs.from_place.Tie as tie
+use Rattle.branch.proofs.Branch.{two-off, two-out}
+use Rattle.branch.proofs.from_place.Statement.{statement}
+use Rattle.branch.proofs.from_place.Tie as tie
 
 sub-requires : tie.Need-sub-requires
 sub-requires c κs = search needs

@@ -1,10 +1,10 @@
--- `opcodes::row_of` meets its contract: what it reads from its table is each byte's row. Its table is compared with the one that
+-- `inverse::row_of` meets its contract: what it reads from its table is each byte's row. Its table is compared with the one that
 -- `Inverse` computes from the manual. Assumes nothing.
 use borrow.Author.Needs.{needs}
-use Rattle.opcodes.specs.Manual.{rowsOf}
-use Rattle.opcodes.proofs.Inverse.{entries, is-none, is-row}
-use Rattle.opcodes.proofs.row_of.Statement.{statement}
-use Rattle.opcodes.proofs.row_of.Tie as tie
+use Rattle.inverse.specs.Inverse.{rowsOf}
+use Rattle.inverse.proofs.Inverse.{entries, is-none, is-row}
+use Rattle.inverse.proofs.row_of.Statement.{statement}
+use Rattle.inverse.proofs.row_of.Tie as tie
 
 mul-row : tie.Need-mul-row
 mul-row c = search needs

@@ -1,11 +1,11 @@
--- `opcodes::distance_of` meets its contract: the way from the place is in an i64, or far out of reach. Assumes nothing.
+-- `branch::distance_of` meets its contract: the way from the place is in an i64, or far out of reach. Assumes nothing.
 use mir.Facts.{toZ-ofZ}
 use mir.Syntax.{w64}
 use mir.Val.{SFits}
 use borrow.Author.Needs.{needs}
-use Rattle.opcodes.proofs.Branch.{place-off, place-out}
-use Rattle.opcodes.proofs.distance_of.Statement.{statement}
-use Rattle.opcodes.proofs.distance_of.Tie as tie
+use Rattle.branch.proofs.Branch.{place-off, place-out}
+use Rattle.branch.proofs.distance_of.Statement.{statement}
+use Rattle.branch.proofs.distance_of.Tie as tie
 
 sub-requires : tie.Need-sub-requires
 sub-requires c κs = search needs

@@ -15,7 +15,7 @@ use Rattle.int64.specs.declared.Number.{Number}
 use Rattle.int64.specs.declared.Number.the-variants as number
 use Rattle.int64.specs.Num.{modZ, fit}
 use Rattle.int64.specs.Says.{says}
-use Rattle.opcodes.specs.Branch.{offset, inReach, byteOf, distanceOf, signed, reached}
+use Rattle.branch.specs.Branch.{offset, inReach, byteOf, distanceOf, signed, reached}
 use Rattle.refusals.proofs.Never.{never}
 
 -- ---- offsets and bytes

@@ -1,9 +1,9 @@
--- `opcodes::operand_byte` meets its contract, by its two tests. Assumes nothing.
+-- `branch::operand_byte` meets its contract, by its two tests. Assumes nothing.
 use mir.Facts.{toZ-ofZ}
 use borrow.Author.Needs.{needs}
-use Rattle.opcodes.proofs.Branch.{far-back, far-ahead, in-reach}
-use Rattle.opcodes.proofs.operand_byte.Statement.{statement}
-use Rattle.opcodes.proofs.operand_byte.Tie as tie
+use Rattle.branch.proofs.Branch.{far-back, far-ahead, in-reach}
+use Rattle.branch.proofs.operand_byte.Statement.{statement}
+use Rattle.branch.proofs.operand_byte.Tie as tie
 
 returns : tie.Need-returns
 returns c = far-back (toZ-ofZ (c .before .fits .offset)) (c .if1 .taken)

@@ -1,9 +1,9 @@
--- `opcodes::decode` meets its contract, by what the first byte is. Assumes nothing.
+-- `inverse::decode` meets its contract, by what the first byte is. Assumes nothing.
 use mathlib.Core.Path.{refl}
 use borrow.Author.Needs.{needs}
-use Rattle.opcodes.proofs.Decoding.{no-bytes, of-row, short}
-use Rattle.opcodes.proofs.decode.Statement.{statement}
-use Rattle.opcodes.proofs.decode.Tie as tie
+use Rattle.inverse.proofs.Decoding.{no-bytes, of-row, short}
+use Rattle.inverse.proofs.decode.Statement.{statement}
+use Rattle.inverse.proofs.decode.Tie as tie
 
 returns : tie.Need-returns
 returns c = no-bytes (c .before .before .args .bytes .now) (c .if1 .taken)

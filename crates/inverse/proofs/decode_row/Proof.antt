@@ -1,9 +1,9 @@
--- `opcodes::decode_row` meets its contract: each return by the number of operand bytes. Assumes nothing.
+-- `inverse::decode_row` meets its contract: each return by the number of operand bytes. Assumes nothing.
 use native.Mathlib.Omega.{arith}
 use borrow.Author.Needs.{needs}
-use Rattle.opcodes.proofs.Decoding.{too-few, operand-none, operand-one, operand-two}
-use Rattle.opcodes.proofs.decode_row.Statement.{statement}
-use Rattle.opcodes.proofs.decode_row.Tie as tie
+use Rattle.inverse.proofs.Decoding.{too-few, operand-none, operand-one, operand-two}
+use Rattle.inverse.proofs.decode_row.Statement.{statement}
+use Rattle.inverse.proofs.decode_row.Tie as tie
 
 cast-n : tie.Need-cast-n
 cast-n c = search needs

@@ -7,8 +7,8 @@ use lib.ListN.{length, take}
 use Rattle.refusals.specs.Answer.{Answer, Done, Refused, pick}
 use Rattle.refusals.specs.Table.{noRow, cutShort}
 use Rattle.little.specs.Little.{number}
-use Rattle.opcodes.specs.declared.Row.{Row}
-use Rattle.opcodes.specs.Manual.{rowsOf}
+use Rattle.inverse.specs.declared.Row.{Row}
+use Rattle.inverse.specs.Inverse.{rowsOf}
 
 pub record Instruction : Type 0 where
   pub row : Row

@@ -1,5 +1,5 @@
--- The inverse table: how the code packs it, and one computed test that it inverts all 151 opcodes and answers none elsewhere.
--- Assumes nothing.
+-- The inverse table: how the code packs it, and one computed test that it inverts all 151 opcodes and answers none elsewhere; and how
+-- many bytes have no row. Assumes nothing.
 use mathlib.Core.Path.{_≡_, refl, ap}
 use mathlib.Core.List.{List, [], _∷_, map}
 use Prim.Native.Nat.{ℕ, zero, suc, _+_, _*_, _/_, _%_, _<_}
@@ -7,12 +7,13 @@ use lib.Dec.{eqb}
 use lib.ListN.{getD}
 use borrow.Author.Tests.{eq-eqb, ne-eqb}
 use Rattle.refusals.specs.Answer.{pick}
-use Rattle.opcodes.specs.declared.Form.{Form}
-use Rattle.opcodes.specs.declared.Row.{Row}
-use Rattle.opcodes.specs.Manual.{formsOf, rowsOf, row}
-use Rattle.opcodes.specs.Census.{below, triple}
-use Rattle.opcodes.proofs.Table.{from, at, at-triple}
 use Rattle.refusals.specs.Each.{Each}
+use Rattle.opcodes.specs.declared.Form.{Form}
+use Rattle.opcodes.specs.Manual.{formsOf}
+use Rattle.opcodes.specs.Census.{below, triple, ofLength}
+use Rattle.opcodes.proofs.Table.{from, at, at-triple}
+use Rattle.inverse.specs.declared.Row.{Row}
+use Rattle.inverse.specs.Inverse.{row, rowsOf}
 
 -- ---- the table, from the manual
 
@@ -62,7 +63,12 @@ pub inverts : _≡_ {A = Inverse} (record { bytes = below answer 256; triples = 
 unfolding entries formsOf rowsOf
 inverts = refl
 
--- ---- what it shows
+-- "none" for 105 bytes
+pub nones : ofLength 0 (below rowsOf 256) ≡ 105
+unfolding rowsOf
+nones = refl
+
+-- ---- what the test shows
 
 module _ (k : ℕ) (h : k < 256) where
   read : answer k ≡ rowsOf k

@@ -14,15 +14,16 @@ use Rattle.refusals.specs.Answer.{Answer, Done, Refused, pick}
 use Rattle.refusals.specs.Table.{argument}
 use Rattle.int64.specs.Num.{modZ}
 use Rattle.little.specs.Little.{number}
-use Rattle.opcodes.specs.declared.Form.{Form}
-use Rattle.opcodes.specs.Manual.{formsOf, rowsOf, row}
-use Rattle.opcodes.specs.Encode.{lowFirst, bytesOf, takes, tried, encodeForms, inRange, encodeOf}
-use Rattle.opcodes.specs.Decode.{Instruction, decodeRow, decodeOf}
 use Rattle.refusals.proofs.Never.{never}
 use Rattle.refusals.specs.Each.{Each}
+use Rattle.opcodes.specs.declared.Form.{Form}
+use Rattle.opcodes.specs.Manual.{formsOf}
+use Rattle.opcodes.specs.Encode.{lowFirst, bytesOf, takes, tried, encodeForms, inRange, encodeOf}
 use Rattle.opcodes.proofs.Manual.{ranges}
-use Rattle.opcodes.proofs.Inverse.{found-again}
 use Rattle.opcodes.proofs.Encoding.{modZ-below, length-lowFirst}
+use Rattle.inverse.specs.Inverse.{row, rowsOf}
+use Rattle.inverse.specs.Decode.{Instruction, decodeRow, decodeOf}
+use Rattle.inverse.proofs.Inverse.{found-again}
 
 -- ---- the operand
 
