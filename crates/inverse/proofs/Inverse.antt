@@ -1,17 +1,18 @@
 -- The inverse table: how the code packs it, and one computed test that it inverts all 151 opcodes and answers none elsewhere; and how
 -- many bytes have no row. Assumes nothing.
-use mathlib.Core.Path.{_≡_, refl, ap}
-use mathlib.Core.List.{List, [], _∷_, map}
+use mathlib.Core.Path.{_≡_, refl, ap, _∙_}
+use mathlib.Core.Bool.{Bool, true, false, and-eq-true-iff}
+use mathlib.Core.List.{List, [], _∷_}
 use Prim.Native.Nat.{ℕ, zero, suc, _+_, _*_, _/_, _%_, _<_}
 use lib.Dec.{eqb}
 use lib.ListN.{getD}
-use borrow.Author.Tests.{eq-eqb, ne-eqb}
+use borrow.Author.Tests.{eq-eqb, ne-eqb, eqb-true}
 use Rattle.refusals.specs.Answer.{pick}
 use Rattle.refusals.specs.Each.{Each}
 use Rattle.opcodes.specs.declared.Form.{Form}
-use Rattle.opcodes.specs.Manual.{formsOf}
-use Rattle.opcodes.specs.Census.{below, triple, ofLength}
-use Rattle.opcodes.proofs.Table.{from, at, at-triple}
+use Rattle.opcodes.specs.Manual.{Mode, Entry, _is_, pages, written, isWritten, keep, operandBytes, form, formsIn, formsOf}
+use Rattle.opcodes.specs.Census.{below, ofLength}
+use Rattle.opcodes.proofs.Table.{from, at}
 use Rattle.inverse.specs.declared.Row.{Row}
 use Rattle.inverse.specs.Inverse.{row, rowsOf}
 
@@ -43,24 +44,31 @@ abbrev pub answered : ℕ → ℕ
 answered zero = 0
 answered (suc n) = pick (eqb (getD entries n 0) 0xffff) 0 1 + answered n
 
--- the rows that have the opcode of each form of a triple
-abbrev pub found : ℕ → ℕ → ℕ → List (List Row)
-found m o s = map (λ (f : Form). rowsOf (f .opcode)) (formsOf m o s)
+-- the rows that have the opcode of each entry of a page
+abbrev pub found : List Entry → List (List Row)
+found [] = []
+found ((k is op) ∷ es) = rowsOf op ∷ found es
 
--- the triple itself, with the operand length of each of its forms
-abbrev pub itself : ℕ → ℕ → ℕ → List (List Row)
-itself m o s = map (λ (f : Form). row m o s (f .operand) ∷ []) (formsOf m o s)
+-- the entry's own row, and it alone
+abbrev pub itself : ℕ → List Entry → List (List Row)
+itself m [] = []
+itself m ((k is op) ∷ es) = (row m (written k .mode) (written k .suffix) (operandBytes k) ∷ []) ∷ itself m es
+
+-- a mnemonic's page
+abbrev pub pageOf : ℕ → List Entry
+pageOf m = getD pages m []
 
 pub record Inverse : Type 0 where
   pub bytes : List (List Row)
-  pub triples : List (List (List Row))
+  pub opcodes : List (List (List Row))
   pub answers : ℕ
 
--- the table is the manual's inverse at each byte; that gives back each row at its opcodes, and it alone; and the table answers
--- at 151 bytes in all
-pub inverts : _≡_ {A = Inverse} (record { bytes = below answer 256; triples = below (triple found) 840; answers = answered 256 })
-    (record { bytes = below rowsOf 256; triples = below (triple itself) 840; answers = 151 })
-unfolding entries formsOf rowsOf
+-- the table is the manual's inverse at each byte; that gives back, at each opcode of each page, its row and it alone; and the table
+-- answers at 151 bytes in all
+pub inverts : _≡_ {A = Inverse}
+    (record { bytes = below answer 256; opcodes = below (λ (m : ℕ). found (pageOf m)) 56; answers = answered 256 })
+    (record { bytes = below rowsOf 256; opcodes = below (λ (m : ℕ). itself m (pageOf m)) 56; answers = 151 })
+unfolding entries rowsOf
 inverts = refl
 
 -- "none" for 105 bytes
@@ -80,13 +88,28 @@ module _ (k : ℕ) (h : k < 256) where
   pub is-row : (getD entries k 0 ≡ 0xffff → ⊥) → rowIn (getD entries k 0) ∷ [] ≡ rowsOf k
   is-row e = rw (ne-eqb _ 0xffff e) at read
 
-all-equal : {A : Type 0} (f g : Form → A) (fs : List Form) → map f fs ≡ map g fs → Each (λ (x : Form). f x ≡ g x) fs
-all-equal f g [] e = tt
-all-equal f g (x ∷ fs) e = (cc, all-equal f g fs (cc))
-
 -- a row's forms are found again by their opcodes
-pub found-again : (m o s : ℕ) → (m < 56) × (o < 5) × (s < 3)
-    → Each (λ (f : Form). rowsOf (f .opcode) ≡ row m o s (f .operand) ∷ []) (formsOf m o s)
-found-again m o s h =
-    all-equal (λ (f : Form). rowsOf (f .opcode)) (λ (f : Form). row m o s (f .operand) ∷ []) (formsOf m o s)
-    (at-triple found itself (ap (λ (x : Inverse). x .triples) inverts) m o s h)
+module _ (m o s : ℕ) where
+  abbrev pub Again : Form → Type 0
+  Again f = rowsOf (f .opcode) ≡ row m o s (f .operand) ∷ []
+
+  -- an entry that is written so is a form of the row
+  one-found : (t : Bool) (k : Mode) (op : ℕ) (fs : List Form) → isWritten k o s ≡ t
+      → rowsOf op ≡ row m (written k .mode) (written k .suffix) (operandBytes k) ∷ [] → Each Again fs
+      → Each Again (keep t (form op (operandBytes k)) fs)
+  one-found true k op fs w e rest =
+      let b = and-eq-true-iff (eqb (written k .mode) o) (eqb (written k .suffix) s) .0 w in
+      let p : written k .mode ≡ o = eqb-true _ _ (b .0) in
+      let q : written k .suffix ≡ s = eqb-true _ _ (b .1) in
+      (e ∙ (λ i. row m (p i) (q i) (operandBytes k) ∷ []), rest)
+  one-found false k op fs w e rest = rest
+
+  all-found : (es : List Entry) → found es ≡ itself m es → Each Again (formsIn o s es)
+  all-found [] e = tt
+  all-found ((k is op) ∷ es) e = one-found (isWritten k o s) k op (formsIn o s es) refl (cc) (all-found es (cc))
+
+  pub found-again : m < 56 → Each Again (formsOf m o s)
+  unfolding formsOf
+  found-again h =
+      all-found (pageOf m)
+      (at (λ (m : ℕ). found (pageOf m)) (λ (m : ℕ). itself m (pageOf m)) 56 (ap (λ (x : Inverse). x .opcodes) inverts) m h)

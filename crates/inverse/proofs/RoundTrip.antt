@@ -92,4 +92,4 @@ module _ (m o s : ℕ) (z : ℤ) where
   unfolding encodeOf
   round-trip bs rest e =
       let p = in-range (inRange m o s) bs (encodeForms (formsOf m o s) z) e in
-      of-tried (formsOf m o s) (found-again m o s (ranges m o s (sym (p .0)) refl)) bs (of-forms (formsOf m o s) bs (p .1)) rest
+      of-tried (formsOf m o s) (found-again m o s (ranges m o s (sym (p .0)) refl .0)) bs (of-forms (formsOf m o s) bs (p .1)) rest
