@@ -13,7 +13,7 @@ use refusals::Outcome;
 ghost use mathlib.Core.Path.{_≡_};
 ghost use Prim.Native.Nat.{_+_, _≤_, min, max};
 ghost use lib.IntN.{pos, _-ℤ_};
-ghost use lib.ListN.{length, replicate};
+ghost use lib.ListN.{length};
 ghost use Rattle.refusals.specs.Answer.{outcome, Done, Refused};
 ghost use Rattle.refusals.specs.Memory.{over};
 ghost use Rattle.int64.specs.Says.{says};
@@ -304,18 +304,17 @@ fn draw(image: &mut [u8], at: usize, bytes: &[u8], emitted: bool)
     requires { ⌜ at + length (now bytes) ≤ length (now image) ⌝ }
     ensures { λ _. ⌜ now (image .exit) ≡ over (ground emitted (now (image .entry))) at (now (bytes .entry)) ⌝ }
 {
-    if emitted {
-        copy_in(image, at, bytes);
-        return;
-    }
-    zero(image);
+    clear(image, emitted);
     copy_in(image, at, bytes);
 }
 
-// Makes every byte zero.
-fn zero(image: &mut [u8])
-    ensures { λ _. ⌜ now (image .exit) ≡ replicate (length (now (image .entry))) 0 ⌝ }
+// Makes every byte zero where nothing was emitted yet.
+fn clear(image: &mut [u8], emitted: bool)
+    ensures { λ _. ⌜ now (image .exit) ≡ ground emitted (now (image .entry)) ⌝ }
 {
+    if emitted {
+        return;
+    }
     let mut i = 0;
     while i < image.len() {
         image[i] = 0;
