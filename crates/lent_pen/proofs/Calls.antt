@@ -78,7 +78,8 @@ module _ {M : Type 1} (𝓤 : URA M) (H : Heap 𝓤) (A : Atoms 𝓤) (at-mem : 
     goes-reset : ent 𝓤 (sep 𝓤 (A .lft κ q) (sem 𝓤 H A (MutRef (named 0) κ P.the-row .own x v))) (Reset .pre to-reset)
     goes-reset =
         qed W (‵ (flft κ q) ∷ ‵ (MutRef (named 0) κ P.the-row .own x v) ∷ []) ∵
-        nothing ! $ move ! (1 ∷ 0 ∷ []) $ join ! $ nothing ! $ move ! (2 ∷ 0 ∷ []) $ fjoin ! $ move ! (1 ∷ 0 ∷ []) $ join ! $ frame ! $ done !
+        nothing ! $ move ! (1 ∷ 0 ∷ []) $ join ! $ nothing ! $ move ! (2 ∷ 0 ∷ []) $ fjoin ! $ move ! (1 ∷ 0 ∷ []) $ join ! $ frame ! $
+        done !
 
     module _ (n : ℕ) (fit : n < 2 ^ 64) where
       abbrev to-set : SetPc .Ghost
@@ -95,9 +96,11 @@ module _ {M : Type 1} (𝓤 : URA M) (H : Heap 𝓤) (A : Atoms 𝓤) (at-mem : 
       to-emit = (((κ, (κ₁, (κ₂, tt))), (q, (q₁, (q₂, tt))), tt, (x, (y, (z, tt))), (v, (s, (t, tt)))), tt)
 
       abbrev Asked : Fml
-      Asked = owns (MutRef (named 0) κ P.the-row ∷ MutSlice (named 1) κ₁ u8 ∷ ShrSlice (named 2) κ₂ u8 ∷ []) (x, (y, (z, tt))) (v, (s, (t, tt)))
+      Asked =
+          owns (MutRef (named 0) κ P.the-row ∷ MutSlice (named 1) κ₁ u8 ∷ ShrSlice (named 2) κ₂ u8 ∷ []) (x, (y, (z, tt))) (v, (s, (t, tt)))
 
-      goes-emit : ent 𝓤 (sep 𝓤 (sep 𝓤 (A .lft κ q) (sep 𝓤 (A .lft κ₁ q₁) (sep 𝓤 (A .lft κ₂ q₂) (sem 𝓤 H A ftrue)))) (sem 𝓤 H A Asked)) (Emit .pre to-emit)
+      goes-emit : ent 𝓤 (sep 𝓤 (sep 𝓤 (A .lft κ q) (sep 𝓤 (A .lft κ₁ q₁) (sep 𝓤 (A .lft κ₂ q₂) (sem 𝓤 H A ftrue)))) (sem 𝓤 H A Asked))
+          (Emit .pre to-emit)
       goes-emit = qed W ((‵ (flft κ q) ⊛ ‵ (flft κ₁ q₁) ⊛ ‵ (flft κ₂ q₂) ⊛ ‵ ftrue) ∷ ‵ Asked ∷ []) ∵ join ! $ frame ! $ done !
 
 -- ---- the calls
@@ -106,17 +109,21 @@ module _ {M : Type 1} (𝓤 : URA M) (H : Heap 𝓤) (A : Atoms 𝓤) (at-mem : 
 abbrev pub Here : {M : Type 1} {𝓤 : URA M} → ℕ → Pen → Item 𝓤
 Here l p = ‵ (fat fullShare P′.mir l 0 (only (pens p)))
 
-module _ {M : Type 1} {𝓤 : URA M} {H : Heap 𝓤} {A : Atoms 𝓤} {K : Type 0} {W : Given 𝓤 H A} {Γ : List (Item 𝓤)} {E : Env 𝓤 H} {C : Calls 𝓤 H} {Λ : Loops 𝓤 H}
+module _ {M : Type 1} {𝓤 : URA M} {H : Heap 𝓤} {A : Atoms 𝓤} {K : Type 0} {W : Given 𝓤 H A} {Γ : List (Item 𝓤)} {E : Env 𝓤 H}
+    {C : Calls 𝓤 H} {Λ : Loops 𝓤 H}
     {q : Post 𝓤 H} {d : Place} {rest : Body} {xs : List Operand} where
-  pub calls-reset : K → FmC 𝓤 H (W .laws) C → (at-mem : Memory → SProp 𝓤) (run : Routine → Fun 𝓤) → Triple 𝓤 (C reset-code.name) (Reset 𝓤 H A at-mem run)
+  pub calls-reset : K → FmC 𝓤 H (W .laws) C → (at-mem : Memory → SProp 𝓤) (run : Routine → Fun 𝓤)
+      → Triple 𝓤 (C reset-code.name) (Reset 𝓤 H A at-mem run)
       → (p : Pen) → IsPen p → (l : ℕ) → ((i j : Item 𝓤) → Opds K W (i ∷ j ∷ Γ) E xs (vptr l 0 ∷ []))
-      → ((w : Val) (a : Outcome) (p′ : Pen) → Is O.the-row a (w ∷ []) → IsPen p′ → SaidReset p a p′ → Seq K W (Here l p′ ∷ Γ) (lands C Λ E d w rest q))
+      → ((w : Val) (a : Outcome) (p′ : Pen) → Is O.the-row a (w ∷ []) → IsPen p′ → SaidReset p a p′
+      → Seq K W (Here l p′ ∷ Γ) (lands C Λ E d w rest q))
       → Seq K W (Here l p ∷ Γ) (runs C Λ E (seq (call reset-code.name xs d) rest) q)
   calls-reset t fm at-mem run known p is l os k =
       lends-pen t tt p is l (λ ν δ. move t (1 ∷ 0 ∷ []) $
       use2 W (raw (Reset 𝓤 H A at-mem run .pre (to-reset 𝓤 H A at-mem run W (ν ∷ []) fullShare (pen-at l δ p) (vptr l 0 ∷ []))))
       (goes-reset 𝓤 H A at-mem run W (ν ∷ []) fullShare (pen-at l δ p) (vptr l 0 ∷ [])) $
-      calls-at t fm (Reset 𝓤 H A at-mem run) known (to-reset 𝓤 H A at-mem run W (ν ∷ []) fullShare (pen-at l δ p) (vptr l 0 ∷ [])) (os _ _) (λ w.
+      calls-at t fm (Reset 𝓤 H A at-mem run) known (to-reset 𝓤 H A at-mem run W (ν ∷ []) fullShare (pen-at l δ p) (vptr l 0 ∷ []))
+      (os _ _) (λ w.
       use1 W (later (some (λ (a : Outcome). ((‵ (flft (ν ∷ []) fullShare) ⊛ ‵ ftrue) ⊛ ‵ (O.the-row .own a (w ∷ [])))
       ⊛ raw (ensured 𝓤 H A reset.ended (reset.clauses 𝓤 H A at-mem run) ((ν ∷ []), tt) (pen-at l δ p, tt) tt a)))) (id⊢ 𝓤 _) $ await t tt $
       pick t (λ a. split t $ move t (1 ∷ []) $
@@ -127,17 +134,21 @@ module _ {M : Type 1} {𝓤 : URA M} {H : Heap 𝓤} {A : Atoms 𝓤} {K : Type 
       move t (1 ∷ []) $ split t $ move t (1 ∷ []) $ peeks t O.the-row (Is O.the-row) (shows 𝓤 H A O.the-row) a (w ∷ []) (λ isa. drop t $
       split t $ move t (1 ∷ []) $ drop t $ move t (0 ∷ 2 ∷ 1 ∷ []) $ pen-back t tt (ws .0) l (λ was. k w a (ws .0) isa was e)))))))
 
-  pub calls-set : K → FmC 𝓤 H (W .laws) C → (at-mem : Memory → SProp 𝓤) (run : Routine → Fun 𝓤) → Triple 𝓤 (C set-pc-code.name) (SetPc 𝓤 H A at-mem run)
+  pub calls-set : K → FmC 𝓤 H (W .laws) C → (at-mem : Memory → SProp 𝓤) (run : Routine → Fun 𝓤)
+      → Triple 𝓤 (C set-pc-code.name) (SetPc 𝓤 H A at-mem run)
       → (p : Pen) → IsPen p → (l n : ℕ) → n < 2 ^ 64 → ((i j : Item 𝓤) → Opds K W (i ∷ j ∷ Γ) E xs (vptr l 0 ∷ vint w64 n ∷ []))
-      → ((w : Val) (a : Outcome) (p′ : Pen) → Is O.the-row a (w ∷ []) → IsPen p′ → SaidSet p n a p′ → Seq K W (Here l p′ ∷ Γ) (lands C Λ E d w rest q))
+      → ((w : Val) (a : Outcome) (p′ : Pen) → Is O.the-row a (w ∷ []) → IsPen p′ → SaidSet p n a p′
+      → Seq K W (Here l p′ ∷ Γ) (lands C Λ E d w rest q))
       → Seq K W (Here l p ∷ Γ) (runs C Λ E (seq (call set-pc-code.name xs d) rest) q)
   calls-set t fm at-mem run known p is l n fit os k =
       lends-pen t tt p is l (λ ν δ. move t (1 ∷ 0 ∷ []) $
       use2 W (raw (SetPc 𝓤 H A at-mem run .pre (to-set 𝓤 H A at-mem run W (ν ∷ []) fullShare (pen-at l δ p) (vptr l 0 ∷ []) n fit)))
       (goes-set 𝓤 H A at-mem run W (ν ∷ []) fullShare (pen-at l δ p) (vptr l 0 ∷ []) n fit) $
-      calls-at t fm (SetPc 𝓤 H A at-mem run) known (to-set 𝓤 H A at-mem run W (ν ∷ []) fullShare (pen-at l δ p) (vptr l 0 ∷ []) n fit) (os _ _) (λ w.
+      calls-at t fm (SetPc 𝓤 H A at-mem run) known (to-set 𝓤 H A at-mem run W (ν ∷ []) fullShare (pen-at l δ p) (vptr l 0 ∷ []) n fit)
+      (os _ _) (λ w.
       use1 W (later (some (λ (a : Outcome). ((‵ (flft (ν ∷ []) fullShare) ⊛ ‵ ftrue) ⊛ ‵ (O.the-row .own a (w ∷ [])))
-      ⊛ raw (ensured 𝓤 H A set-pc.ended (set-pc.clauses 𝓤 H A at-mem run) ((ν ∷ []), tt) (pen-at l δ p, (n, tt)) tt a)))) (id⊢ 𝓤 _) $ await t tt $
+      ⊛ raw (ensured 𝓤 H A set-pc.ended (set-pc.clauses 𝓤 H A at-mem run) ((ν ∷ []), tt) (pen-at l δ p, (n, tt)) tt a)))) (id⊢ 𝓤 _) $
+      await t tt $
       pick t (λ a. split t $ move t (1 ∷ []) $
       use1 W (some (λ (ws : Pen × (Unit {0} × Unit {0})). ‵ (lasts set-pc.ended ((ν ∷ []), tt) (pen-at l δ p, (n, tt)) ws)
       ⊛ raw (fact 𝓤 (SaidSet p n a (ws .0))))) (id⊢ 𝓤 _) $
@@ -146,12 +157,15 @@ module _ {M : Type 1} {𝓤 : URA M} {H : Heap 𝓤} {A : Atoms 𝓤} {K : Type 
       move t (1 ∷ []) $ split t $ move t (1 ∷ []) $ peeks t O.the-row (Is O.the-row) (shows 𝓤 H A O.the-row) a (w ∷ []) (λ isa. drop t $
       split t $ move t (1 ∷ []) $ drop t $ move t (0 ∷ 2 ∷ 1 ∷ []) $ pen-back t tt (ws .0) l (λ was. k w a (ws .0) isa was e)))))))
 
-  pub calls-emit : K → FmC 𝓤 H (W .laws) C → (at-mem : Memory → SProp 𝓤) (run : Routine → Fun 𝓤) → Triple 𝓤 (C emit-code.name) (Emit 𝓤 H A at-mem run)
+  pub calls-emit : K → FmC 𝓤 H (W .laws) C → (at-mem : Memory → SProp 𝓤) (run : Routine → Fun 𝓤)
+      → Triple 𝓤 (C emit-code.name) (Emit 𝓤 H A at-mem run)
       → (p : Pen) → IsPen p → (l : ℕ) {κ₁ κ₂ : Lft} {q₁ q₂ : Share} (y z : RefT (List ℕ)) (s u : Val)
       → ((i j : Item 𝓤) → Opds K W (i ∷ j ∷ Γ) E xs (vptr l 0 ∷ s ∷ u ∷ []))
-      → ((w : Val) (a : Outcome) (p′ : Pen) (ys : List ℕ) → Is O.the-row a (w ∷ []) → IsPen p′ → length ys ≡ length (y .now) → SaidEmit p (y .now) (z .now) a p′ ys
+      → ((w : Val) (a : Outcome) (p′ : Pen) (ys : List ℕ) → Is O.the-row a (w ∷ []) → IsPen p′ → length ys ≡ length (y .now)
+      → SaidEmit p (y .now) (z .now) a p′ ys
       → Seq K W (Here l p′ ∷ ‵ (finally u8 (y .name) ys) ∷ ‵ (flft κ₁ q₁) ∷ ‵ (flft κ₂ q₂) ∷ Γ) (lands C Λ E d w rest q))
-      → Seq K W (Here l p ∷ ‵ (MutSlice (named 1) κ₁ u8 .own y (s ∷ [])) ∷ ‵ (flft κ₁ q₁) ∷ ‵ (ShrSlice (named 2) κ₂ u8 .own z (u ∷ [])) ∷ ‵ (flft κ₂ q₂) ∷ Γ)
+      → Seq K W (Here l p ∷ ‵ (MutSlice (named 1) κ₁ u8 .own y (s ∷ [])) ∷ ‵ (flft κ₁ q₁) ∷ ‵ (ShrSlice (named 2) κ₂ u8 .own z (u ∷ []))
+      ∷ ‵ (flft κ₂ q₂) ∷ Γ)
       (runs C Λ E (seq (call emit-code.name xs d) rest) q)
   calls-emit t fm at-mem run known p is l {κ₁} {κ₂} {q₁} {q₂} y z s u os k =
       lends-pen t tt p is l (λ ν δ.
@@ -159,14 +173,18 @@ module _ {M : Type 1} {𝓤 : URA M} {H : Heap 𝓤} {A : Atoms 𝓤} {K : Type 
       nothing t $ move t (6 ∷ 0 ∷ []) $ fjoin t $ move t (4 ∷ 0 ∷ []) $ fjoin t $ move t (1 ∷ 0 ∷ []) $ fjoin t $
       -- [what is asked; the pen's token; its claim; the image's token; the bytes' token]
       nothing t $ move t (5 ∷ 0 ∷ []) $ join t $ move t (4 ∷ 0 ∷ []) $ join t $ move t (2 ∷ 0 ∷ []) $ join t $
-      use2 W (raw (Emit 𝓤 H A at-mem run .pre (to-emit 𝓤 H A at-mem run W (ν ∷ []) fullShare (pen-at l δ p) (vptr l 0 ∷ []) κ₁ κ₂ q₁ q₂ y z (s ∷ []) (u ∷ []))))
+      use2 W (raw (Emit 𝓤 H A at-mem run .pre (to-emit 𝓤 H A at-mem run W (ν ∷ []) fullShare (pen-at l δ p)
+      (vptr l 0 ∷ []) κ₁ κ₂ q₁ q₂ y z (s ∷ []) (u ∷ []))))
       (goes-emit 𝓤 H A at-mem run W (ν ∷ []) fullShare (pen-at l δ p) (vptr l 0 ∷ []) κ₁ κ₂ q₁ q₂ y z (s ∷ []) (u ∷ [])) $
       calls-at t fm (Emit 𝓤 H A at-mem run) known
       (to-emit 𝓤 H A at-mem run W (ν ∷ []) fullShare (pen-at l δ p) (vptr l 0 ∷ []) κ₁ κ₂ q₁ q₂ y z (s ∷ []) (u ∷ [])) (os _ _) (λ w.
-      use1 W (later (some (λ (a : Outcome). ((‵ (flft (ν ∷ []) fullShare) ⊛ ‵ (flft κ₁ q₁) ⊛ ‵ (flft κ₂ q₂) ⊛ ‵ ftrue) ⊛ ‵ (O.the-row .own a (w ∷ [])))
-      ⊛ raw (ensured 𝓤 H A emit.ended (emit.clauses 𝓤 H A at-mem run) ((ν ∷ []), (κ₁, (κ₂, tt))) (pen-at l δ p, (y, (z, tt))) tt a)))) (id⊢ 𝓤 _) $ await t tt $
+      use1 W (later (some (λ (a : Outcome). ((‵ (flft (ν ∷ []) fullShare) ⊛ ‵ (flft κ₁ q₁) ⊛ ‵ (flft κ₂ q₂) ⊛ ‵ ftrue)
+      ⊛ ‵ (O.the-row .own a (w ∷ [])))
+      ⊛ raw (ensured 𝓤 H A emit.ended (emit.clauses 𝓤 H A at-mem run) ((ν ∷ []), (κ₁, (κ₂, tt))) (pen-at l δ p, (y, (z, tt))) tt a))))
+      (id⊢ 𝓤 _) $ await t tt $
       pick t (λ a. split t $ move t (1 ∷ []) $
-      use1 W (some (λ (ws : Pen × (List ℕ × (Unit {0} × Unit {0}))). ‵ (lasts emit.ended ((ν ∷ []), (κ₁, (κ₂, tt))) (pen-at l δ p, (y, (z, tt))) ws)
+      use1 W (some (λ (ws : Pen × (List ℕ × (Unit {0} × Unit {0}))).
+      ‵ (lasts emit.ended ((ν ∷ []), (κ₁, (κ₂, tt))) (pen-at l δ p, (y, (z, tt))) ws)
       ⊛ raw (fact 𝓤 (SaidEmit p (y .now) (z .now) a (ws .0) (ws .1 .0))))) (id⊢ 𝓤 _) $
       pick t (λ ws. split t $ move t (1 ∷ []) $ heard t (SaidEmit p (y .now) (z .now) a (ws .0) (ws .1 .0)) (λ e.
       fsplit t $ move t (1 ∷ []) $ fsplit t $ fsplit t $ move t (1 ∷ []) $ feqL t (λ len. move t (1 ∷ []) $ drop t $

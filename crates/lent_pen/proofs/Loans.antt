@@ -40,14 +40,16 @@ pen-at l δ p = record { ptr = (l, 0); name = δ; now = p }
 
 -- the local's cell and what the pen owns are what can be lent, and back
 module _ {M : Type 1} (𝓤 : URA M) (H : Heap 𝓤) (A : Atoms 𝓤) (W : Given 𝓤 H A) (p : Pen) (l : ℕ) where
-  pen-in : ent 𝓤 (sep 𝓤 (H .at fullShare P′.mir l 0 (only (pens p))) (sem 𝓤 H A (P.the-row .own p (pens p)))) (sem 𝓤 H A (mem P.the-row .lies p l 0))
+  pen-in : ent 𝓤 (sep 𝓤 (H .at fullShare P′.mir l 0 (only (pens p))) (sem 𝓤 H A (P.the-row .own p (pens p))))
+      (sem 𝓤 H A (mem P.the-row .lies p l 0))
   unfolding partOf
   pen-in =
       qed W (‵ (fat fullShare P′.mir l 0 (only (pens p))) ∷ ‵ (P.the-row .own p (pens p)) ∷ []) ∵
       use1 W (‵ (cellAt fullShare (P.the-row .mir) (pens p) l 0)) (W .laws .at-raw fullShare P′.mir l 0 (only (pens p))) $ fjoin ! $
       fpack ! (List Val) (λ us. fsep (cellAt fullShare (P.the-row .mir) us l 0) (P.the-row .own p us)) (pens p) $ done !
 
-  pen-out : ent 𝓤 (sem 𝓤 H A (mem P.the-row .lies p l 0)) (sep 𝓤 (H .at fullShare P′.mir l 0 (only (pens p))) (sem 𝓤 H A (P.the-row .own p (pens p))))
+  pen-out : ent 𝓤 (sem 𝓤 H A (mem P.the-row .lies p l 0))
+      (sep 𝓤 (H .at fullShare P′.mir l 0 (only (pens p))) (sem 𝓤 H A (P.the-row .own p (pens p))))
   unfolding partOf
   pen-out =
       qed W (‵ (mem P.the-row .lies p l 0) ∷ []) ∵ fpick ! (λ vs. fsplit ! $
@@ -56,17 +58,21 @@ module _ {M : Type 1} (𝓤 : URA M) (H : Heap 𝓤) (A : Atoms 𝓤) (W : Given
 
 module _ {M : Type 1} {𝓤 : URA M} {H : Heap 𝓤} {A : Atoms 𝓤} {K : Type 0} {W : Given 𝓤 H A} {Γ : List (Item 𝓤)} {G : Goal 𝓤 H} where
   pub lends-pen : K → Soaks G → (p : Pen) → IsPen p → (l : ℕ)
-      → ((ν : ℕ) (δ : GName) → Seq K W (‵ (MutRef (named 0) (ν ∷ []) P.the-row .own (pen-at l δ p) (vptr l 0 ∷ [])) ∷ ‵ (flft (ν ∷ []) fullShare)
+      → ((ν : ℕ) (δ : GName) → Seq K W (‵ (MutRef (named 0) (ν ∷ []) P.the-row .own (pen-at l δ p) (vptr l 0 ∷ []))
+      ∷ ‵ (flft (ν ∷ []) fullShare)
       ∷ ‵ (flent (ν ∷ []) (Body (mem P.the-row) l 0 δ)) ∷ Γ) G)
       → Seq K W (‵ (fat fullShare P′.mir l 0 (only (pens p))) ∷ Γ) G
   lends-pen t z p is l k =
-      owned-pen t p is $ move t (1 ∷ 0 ∷ []) $ use2 W (‵ (mem P.the-row .lies p l 0)) (pen-in 𝓤 H A W p l) $ lft-new t z (λ ν. move t (1 ∷ []) $
+      owned-pen t p is $ move t (1 ∷ 0 ∷ []) $ use2 W (‵ (mem P.the-row .lies p l 0)) (pen-in 𝓤 H A W p l) $
+      lft-new t z (λ ν. move t (1 ∷ []) $
       use1 W (later (some (λ (δ : GName). ‵ (MutRef (named 0) (ν ∷ []) P.the-row .own (pen-at l δ p) (vptr l 0 ∷ []))
       ⊛ ‵ (flent (ν ∷ []) (Body (mem P.the-row) l 0 δ))))) (lends-ref 𝓤 H A W P.the-row (named 0) (ν ∷ []) p l 0) $
       await t z $ pick t (λ δ. split t $ move t (0 ∷ 2 ∷ 1 ∷ []) $ k ν δ))
 
-  pub pen-back : K → Soaks G → {ν : ℕ} {δ : GName} (p : Pen) (l : ℕ) → (IsPen p → Seq K W (‵ (fat fullShare P′.mir l 0 (only (pens p))) ∷ Γ) G)
-      → Seq K W (‵ (flft (ν ∷ []) fullShare) ∷ ‵ (flent (ν ∷ []) (Body (mem P.the-row) l 0 δ)) ∷ ‵ (fres δ (P.the-row .coded .code p)) ∷ Γ) G
+  pub pen-back : K → Soaks G → {ν : ℕ} {δ : GName} (p : Pen) (l : ℕ)
+      → (IsPen p → Seq K W (‵ (fat fullShare P′.mir l 0 (only (pens p))) ∷ Γ) G)
+      → Seq K W (‵ (flft (ν ∷ []) fullShare) ∷ ‵ (flent (ν ∷ []) (Body (mem P.the-row) l 0 δ)) ∷ ‵ (fres δ (P.the-row .coded .code p))
+      ∷ Γ) G
   pen-back t z {ν} {δ} p l k =
       lft-end t z $ use3 W (later (‵ (mem P.the-row .lies p l 0))) (ref-back 𝓤 H A W P.the-row (ν ∷ []) δ p l 0) $ await t z $
       use1 W (‵ (fat fullShare P′.mir l 0 (only (pens p))) ⊛ ‵ (P.the-row .own p (pens p))) (pen-out 𝓤 H A W p l) $ split t $
@@ -89,7 +95,8 @@ listed ys = codedHoleys u8 .code (heres u8 ys)
 
 module _ {M : Type 1} {𝓤 : URA M} {H : Heap 𝓤} {A : Atoms 𝓤} {K : Type 0} {W : Given 𝓤 H A} {Γ : List (Item 𝓤)} {G : Goal 𝓤 H} where
   pub lends-image : K → Soaks G → (ℓ ℓ′ : Lifetime) {κ : Lft} {q : Share} {γ : GName} (ys : List ℕ) (b o : ℕ)
-      → ((ν : ℕ) (δ : GName) → Seq K W (‵ (MutSlice ℓ′ (ν ∷ []) u8 .own (bytes-at b o δ ys) (sliceVal (b, o) (length ys) ∷ [])) ∷ ‵ (Claim ν b o δ ys)
+      → ((ν : ℕ) (δ : GName) → Seq K W (‵ (MutSlice ℓ′ (ν ∷ []) u8 .own (bytes-at b o δ ys) (sliceVal (b, o) (length ys) ∷ []))
+      ∷ ‵ (Claim ν b o δ ys)
       ∷ ‵ (flft (ν ∷ []) fullShare) ∷ ‵ (Opened κ q b o γ ys) ∷ ‵ (fobs γ (listed ys)) ∷ ‵ (fauth γ (listed ys)) ∷ Γ) G)
       → Seq K W (‵ (MutSlice ℓ κ u8 .own (bytes-at b o γ ys) (sliceVal (b, o) (length ys) ∷ [])) ∷ ‵ (flft κ q) ∷ Γ) G
   lends-image t z ℓ ℓ′ {κ} {q} {γ} ys b o k =
@@ -101,7 +108,8 @@ module _ {M : Type 1} {𝓤 : URA M} {H : Heap 𝓤} {A : Atoms 𝓤} {K : Type 
   pub image-back : K → Soaks G → (ℓ : Lifetime) {κ : Lft} {q : Share} {γ : GName} {ν : ℕ} {δ : GName} (ys zs : List ℕ) (b o : ℕ)
       → Room u8 (length ys) → length zs ≡ length ys
       → Step K W (‵ (MutSlice ℓ κ u8 .own (bytes-at b o γ zs) (sliceVal (b, o) (length ys) ∷ [])) ∷ ‵ (flft κ q) ∷ Γ) G
-      (‵ (flft (ν ∷ []) fullShare) ∷ ‵ (Claim ν b o δ ys) ∷ ‵ (finally u8 δ zs) ∷ ‵ (Opened κ q b o γ ys) ∷ ‵ (fobs γ (listed ys)) ∷ ‵ (fauth γ (listed ys)) ∷ Γ) G
+      (‵ (flft (ν ∷ []) fullShare) ∷ ‵ (Claim ν b o δ ys) ∷ ‵ (finally u8 δ zs) ∷ ‵ (Opened κ q b o γ ys) ∷ ‵ (fobs γ (listed ys))
+      ∷ ‵ (fauth γ (listed ys)) ∷ Γ) G
   image-back t z ℓ {κ} {q} {γ} {ν} {δ} ys zs b o room e =
       step (λ rest. lft-end t z $
       use3 W (later (‵ (Arr (mem u8) (length ys) .lies zs b o))) (slice-back 𝓤 H A W u8 (ν ∷ []) δ zs (length ys) b o) $ await t z $

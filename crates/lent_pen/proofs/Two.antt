@@ -35,7 +35,14 @@ module _ (p : Pen) (image bytes : List ℕ) where
   emit-far h k = simp (h, k)
 
 set-is : (p : Pen) (at : ℕ) → sound p ≡ true → at ≤ 65536
-    → setPc p at ≡ Done (record { place = at; initial = p .initial; target = p .target; start = p .start; end = p .end; emitted = p .emitted })
+    → setPc p at ≡ Done (record {
+      place = at;
+      initial = p .initial;
+      target = p .target;
+      start = p .start;
+      end = p .end;
+      emitted = p .emitted;
+    })
 unfolding setPc ofPen
 set-is p at h k = simp (h, le-leb _ _ k)
 
@@ -134,7 +141,15 @@ module _ (i at : ℕ) (image first second : List ℕ) where
       after = widened (begun i i) (length first)
 
       abbrev there : Pen
-      there = record { place = at; initial = after .initial; target = after .target; start = after .start; end = after .end; emitted = after .emitted }
+      there =
+          record {
+            place = at;
+            initial = after .initial;
+            target = after .target;
+            start = after .start;
+            end = after .end;
+            emitted = after .emitted;
+          }
 
       first-done : emit (begun i i) image first ≡ Done after
       first-done = emit-is (begun i i) image first h f
@@ -143,7 +158,8 @@ module _ (i at : ℕ) (image first second : List ℕ) where
       set-done = set-is after at (emit-sound (begun i i) image first first-done) (here at k)
 
       still-over : soundOver there (length half) ≡ true
-      still-over = over-is there (length half) (set-pc-sound after at set-done) (emit-length (begun i i) image first ∙ sound-over-has _ _ h .0)
+      still-over =
+          over-is there (length half) (set-pc-sound after at set-done) (emit-length (begun i i) image first ∙ sound-over-has _ _ h .0)
 
       pub two-second : fits (begun at at) (length second) ≡ false → Refused outside ≡ two i image first at second
       two-second g =

@@ -32,10 +32,12 @@ use Rattle.lent_pen.proofs.emit_two.Reads as emit-two
 -- ---- what the calls on a lent pen promise
 
 -- the prover makes no `Post` of a function that is walked by hand: it is written out, and shown to be what the source promises
-record Promised (T : Ended) (c : (M : Type 1) (𝓤 : URA M) (H : Heap 𝓤) → Atoms 𝓤 → (Memory → SProp 𝓤) → (Routine → Fun 𝓤) → Clauses 𝓤 T) : Type 3 where
+record Promised (T : Ended)
+    (c : (M : Type 1) (𝓤 : URA M) (H : Heap 𝓤) → Atoms 𝓤 → (Memory → SProp 𝓤) → (Routine → Fun 𝓤) → Clauses 𝓤 T) : Type 3 where
   Post : (k : Lfts (T .signature .lifetimes)) → Args (T .signature) k → Res (T .signature) k → AtExit T k → Type 0
   promised : (M : Type 1) (𝓤 : URA M) (H : Heap 𝓤) (A : Atoms 𝓤) (mem : Memory → SProp 𝓤) (run : Routine → Fun 𝓤)
-      (k : Lfts (T .signature .lifetimes)) (a : Args (T .signature) k) (g : c M 𝓤 H A mem run k a .ghost) (x : Res (T .signature) k) (e : AtExit T k)
+      (k : Lfts (T .signature .lifetimes)) (a : Args (T .signature) k) (g : c M 𝓤 H A mem run k a .ghost) (x : Res (T .signature) k)
+      (e : AtExit T k)
       → c M 𝓤 H A mem run k a .ensures g x e ≡ fact 𝓤 (Post k a x e)
 
 -- the pen at exit and the answer, as the `Drawn` that the same call by value gives

@@ -34,7 +34,8 @@ pub fn set_pc(pen: &mut Pen, pc: usize) -> Outcome
 
 // Writes the bytes at the place, and moves it behind them.
 pub fn emit(pen: &mut Pen, image: &mut [u8], bytes: &[u8]) -> Outcome
-    ensures { λ r. ⌜ ((now (pen .exit), says r) ≡ left (now (pen .entry)) (emit (now (pen .entry)) (now (image .entry)) (now (bytes .entry))))
+    ensures { λ r. ⌜ ((now (pen .exit), says r)
+        ≡ left (now (pen .entry)) (emit (now (pen .entry)) (now (image .entry)) (now (bytes .entry))))
         × (now (image .exit) ≡ imageAfter (now (pen .entry)) (now (image .entry)) (now (bytes .entry))) ⌝ }
 {
     let drawn = segment::emit(*pen, image, bytes);

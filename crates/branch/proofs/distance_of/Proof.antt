@@ -23,7 +23,8 @@ returns : tie.Need-returns
 returns c =
     let o = c .before .before .before .before in
     let d : SFits w64 (c .before .before .ahead .given .0 .0) = search needs in
-    place-off (toZ-ofZ (o .before .fits .place)) (toZ-ofZ (o .before .fits .target)) (o .sub .ensures) (c .before .before .ahead .given .1) (toZ-ofZ d) (c .from-place .ensures)
+    place-off (toZ-ofZ (o .before .fits .place)) (toZ-ofZ (o .before .fits .target)) (o .sub .ensures)
+    (c .before .before .ahead .given .1) (toZ-ofZ d) (c .from-place .ensures)
 
 returns-2 : tie.Need-returns-2
 returns-2 c =

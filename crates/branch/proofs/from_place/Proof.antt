@@ -23,7 +23,8 @@ returns : tie.Need-returns
 returns c =
     let o = c .before .before .before .before in
     let d : SFits w64 (c .before .before .offset .given .0 .0) = search needs in
-    two-off (toZ-ofZ (o .before .fits .ahead)) (o .sub .ensures) (c .before .before .offset .given .1) (toZ-ofZ d) (c .operand-byte .ensures)
+    two-off (toZ-ofZ (o .before .fits .ahead)) (o .sub .ensures) (c .before .before .offset .given .1) (toZ-ofZ d)
+    (c .operand-byte .ensures)
 
 returns-2 : tie.Need-returns-2
 returns-2 c =

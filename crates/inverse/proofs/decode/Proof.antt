@@ -37,12 +37,14 @@ decode-row-requires c κs =
 returns-2 : tie.Need-returns-2
 returns-2 c =
     let o = c .before .before in
-    of-row _ (c .enum-told .given .1) (o .before .before .before .before .args .bytes .now) (o .before .before .if1 .left) (o .row-of .ensures) refl
+    of-row _ (c .enum-told .given .1) (o .before .before .before .before .args .bytes .now) (o .before .before .if1 .left)
+    (o .row-of .ensures) refl
 
 returns-3 : tie.Need-returns-3
 returns-3 c =
     let o = c .before .before .before .before .before in
-    of-row _ (c .before .before .before .row .given .1) (o .before .before .before .before .args .bytes .now) (o .before .before .if1 .left) (o .row-of .ensures)
+    of-row _ (c .before .before .before .row .given .1) (o .before .before .before .before .args .bytes .now)
+    (o .before .before .if1 .left) (o .row-of .ensures)
     (c .decode-row .ensures)
 
 pub decode-spec : {M : Type 1} → statement M

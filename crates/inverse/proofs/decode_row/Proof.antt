@@ -27,7 +27,8 @@ wide-requires c κs = search needs
 returns-3 : tie.Need-returns-3
 returns-3 c =
     let s = c .before .before .before .before .before .before .before in
-    operand-one (s .args .row) (s .args .rest .now) (c .before .before .before .before .if1 .left) (c .if3 .taken) (c .before .wide .ensures)
+    operand-one (s .args .row) (s .args .rest .now) (c .before .before .before .before .if1 .left) (c .if3 .taken)
+    (c .before .wide .ensures)
 
 shared-slice-read-wide-2 : tie.Need-shared-slice-read-wide-2
 shared-slice-read-wide-2 c = search needs

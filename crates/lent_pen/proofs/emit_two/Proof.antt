@@ -44,7 +44,8 @@ returns-3 c =
     let over = told-over _ (first .before .is-sound-over .ensures) (begun .before .begin .ensures) in
     let there = second .before .is-sound .ensures ∙ ap sound (begun .begin2 .ensures) in
     let room = told-room _ (c .before .has-room .ensures) (begun .before .begin .ensures) in
-    refusal _ _ _ _ _ (two-first _ _ _ _ _ (granted over (first .if1 .left)) (granted there (second .if2 .left)) (denied room (c .if3 .taken)))
+    refusal _ _ _ _ _ (two-first _ _ _ _ _ (granted over (first .if1 .left)) (granted there (second .if2 .left))
+    (denied room (c .if3 .taken)))
 
 has-room-requires-2 : tie.Need-has-room-requires-2
 has-room-requires-2 c κs = search needs

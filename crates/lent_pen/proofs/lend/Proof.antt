@@ -64,7 +64,8 @@ module _ {M : Type 1} (𝓤 : URA M) (H : Heap 𝓤) (A : Atoms 𝓤) (at-mem : 
   module _ (W : Given 𝓤 H A) where
     -- two places i and j, an image at (b, o) lent for κ, and bytes z₁ and z₂ lent for κ₁ and κ₂
     module _ (κ κ₁ κ₂ : Lft) (bounds : AllOutlive 3 (f.signature .outlives) (κ, (κ₁, (κ₂, tt)))) (q q₁ q₂ : Share)
-        (i : ℕ) (i-fits : i < 2 ^ 64) (b o : ℕ) (γ : GName) (ys : List ℕ) (z₁ : RefT (List ℕ)) (j : ℕ) (j-fits : j < 2 ^ 64) (z₂ : RefT (List ℕ)) where
+        (i : ℕ) (i-fits : i < 2 ^ 64) (b o : ℕ) (γ : GName) (ys : List ℕ) (z₁ : RefT (List ℕ)) (j : ℕ) (j-fits : j < 2 ^ 64)
+        (z₂ : RefT (List ℕ)) where
       abbrev x : ℕ × (RefT (List ℕ) × (RefT (List ℕ) × (ℕ × (RefT (List ℕ) × Unit {0}))))
       x = (i, (bytes-at b o γ ys, (z₁, (j, (z₂, tt)))))
 
@@ -114,7 +115,8 @@ module _ {M : Type 1} (𝓤 : URA M) (H : Heap 𝓤) (A : Atoms 𝓤) (at-mem : 
       exits : (p₀ : Pen) → p₀ ≡ begun i i → (p₁ : Pen) (ys₁ : List ℕ) (a₁ : Outcome) → SaidEmit p₀ ys (z₁ .now) a₁ p₁ ys₁
           → (p₂ : Pen) (a₂ : Outcome) → SaidSet p₁ j a₂ p₂ → (p₃ : Pen) (ys₃ : List ℕ) (a₃ : Outcome) → SaidEmit p₂ ys₁ (z₂ .now) a₃ p₃ ys₃
           → length ys₃ ≡ length ys → IsPen p₃
-          → ent 𝓤 (⋆ 𝓤 H A (‵ (flft κ q) ∷ ‵ (flft κ₁ q₁) ∷ ‵ (flft κ₂ q₂) ∷ ‵ (finally u8 γ ys₃) ∷ ‵ Own₁ ∷ ‵ Own₂ ∷ [])) (Post (only (pens p₃)))
+          → ent 𝓤 (⋆ 𝓤 H A (‵ (flft κ q) ∷ ‵ (flft κ₁ q₁) ∷ ‵ (flft κ₂ q₂) ∷ ‵ (finally u8 γ ys₃) ∷ ‵ Own₁ ∷ ‵ Own₂ ∷ []))
+          (Post (only (pens p₃)))
       exits p₀ e₀ p₁ ys₁ a₁ e₁ p₂ a₂ e₂ p₃ ys₃ a₃ e₃ len is =
           qed W (‵ (flft κ q) ∷ ‵ (flft κ₁ q₁) ∷ ‵ (flft κ₂ q₂) ∷ ‵ (finally u8 γ ys₃) ∷ ‵ Own₁ ∷ ‵ Own₂ ∷ []) ∵
           suffices ! _
@@ -137,11 +139,14 @@ module _ {M : Type 1} (𝓤 : URA M) (H : Heap 𝓤) (A : Atoms 𝓤) (at-mem : 
           ∷ ‵ (owns (usize ∷ MutSlice (named 0) κ u8 ∷ ShrSlice (named 1) κ₁ u8 ∷ usize ∷ ShrSlice (named 2) κ₂ u8 ∷ []) x at) ∷ []) ∵
           enter ! C Λ code.function (vint w64 i ∷ s ∷ t₁ ∷ vint w64 j ∷ t₂ ∷ []) _ $
           alloc1 ! (λ l₀. alloc1 ! (λ l₁. alloc1 ! (λ l₂. alloc1 ! (λ l₃. alloc1 ! (λ l₄. alloc1 ! (λ l₅. alloc1 ! (λ l₆. alloc1 ! (λ l₇.
-          alloc1 ! (λ l₈. alloc1 ! (λ l₉. alloc1 ! (λ l₁₀. alloc1 ! (λ l₁₁. alloc1 ! (λ l₁₂. alloc1 ! (λ l₁₃. alloc1 ! (λ l₁₄. alloc1 ! (λ l₁₅.
+          alloc1 ! (λ l₈. alloc1 ! (λ l₉. alloc1 ! (λ l₁₀. alloc1 ! (λ l₁₁.
+          alloc1 ! (λ l₁₂. alloc1 ! (λ l₁₃. alloc1 ! (λ l₁₄. alloc1 ! (λ l₁₅.
           alloc0 ! $ params1 ! $
           pass1 ! (init ! 28 refl (tt, record { fits = i-fits })) $
-          pass1 ! (init ! 26 refl (tt, (tt, (record { fits = room .0 }, tt)))) $ pass1 ! (init ! 24 refl (tt, (tt, (record { fits = room₁ .0 }, tt)))) $
-          pass1 ! (init ! 22 refl (tt, record { fits = j-fits })) $ pass1 ! (init ! 20 refl (tt, (tt, (record { fits = room₂ .0 }, tt)))) $ pass0 ! $
+          pass1 ! (init ! 26 refl (tt, (tt, (record { fits = room .0 }, tt)))) $
+          pass1 ! (init ! 24 refl (tt, (tt, (record { fits = room₁ .0 }, tt)))) $
+          pass1 ! (init ! 22 refl (tt, record { fits = j-fits })) $
+          pass1 ! (init ! 20 refl (tt, (tt, (record { fits = room₂ .0 }, tt)))) $ pass0 ! $
           move ! (33 ∷ []) $ fsplit ! $ drop ! $ fsplit ! $ move ! (1 ∷ []) $ fsplit ! $
           move ! (1 ∷ []) $ fsplit ! $ drop ! $ fsplit ! $ move ! (1 ∷ []) $ drop ! $
           move ! (35 ∷ []) $ split ! $ move ! (1 ∷ []) $ split ! $ move ! (1 ∷ []) $ split ! $ move ! (1 ∷ []) $ drop ! $
@@ -151,16 +156,19 @@ module _ {M : Type 1} (𝓤 : URA M) (H : Heap 𝓤) (A : Atoms 𝓤) (at-mem : 
           -- `begin`
           use0 W (raw (Begin .pre to-begin)) goes-begin $
           calls-at ! fm Begin known-begin to-begin
-          (and-then ! (load ! (from ! (stop !)) (look ! 37 refl)) (and-then ! (load ! (from ! (stop !)) (look ! 37 refl)) (no-more !))) (λ w.
+          (and-then ! (load ! (from ! (stop !)) (look ! 37 refl)) (and-then ! (load ! (from ! (stop !)) (look ! 37 refl)) (no-more !)))
+          (λ w.
           use1 W (later (some (λ (p : Pen). (‵ ftrue ⊛ ‵ (P.the-row .own p (w ∷ []))) ⊛ raw (EnsuredBegin p)))) (id⊢ 𝓤 _) $ await ! tt $
           pick ! (λ p₀. split ! $ move ! (1 ∷ []) $ use1 W (raw (fact 𝓤 (p₀ ≡ begun i i))) (said-begin p₀) $ heard ! (p₀ ≡ begun i i) (λ e₀.
           split ! $ drop ! $ peeks ! P.the-row (Is P.the-row) (shows 𝓤 H A P.the-row) p₀ (w ∷ []) (λ is.
           land ! (from ! (stop !)) (init ! 25 refl (typed-pen 𝓤 H A W p₀ w is)) $ drop ! $
           rewrite ! 24 (λ (u : Val). ‵ (fat fullShare P′.mir l₇ 0 u)) (ap only (pen-tells p₀ _ is)) refl $
-          assigns ! (of-opd ! (load ! (from ! (stop !)) (look ! 24 refl))) (from ! (stop !)) (init ! 26 refl (pen-typed 𝓤 H A W p₀ (pen-spelt p₀ _ is))) $
+          assigns ! (of-opd ! (load ! (from ! (stop !)) (look ! 24 refl))) (from ! (stop !))
+          (init ! 26 refl (pen-typed 𝓤 H A W p₀ (pen-spelt p₀ _ is))) $
           -- `emit`
           assigns ! (addr ! (from ! (stop !))) (from ! (stop !)) (init ! 20 refl (tt, tt)) $
-          assigns ! (addr ! (from ! (fld ! refl (hop ! (look-in ! 34 (sub ! 0 refl (whole !))) (stop !))))) (from ! (stop !)) (init ! 18 refl (tt, tt)) $
+          assigns ! (addr ! (from ! (fld ! refl (hop ! (look-in ! 34 (sub ! 0 refl (whole !))) (stop !))))) (from ! (stop !))
+          (init ! 18 refl (tt, tt)) $
           assigns ! (agg ! (and-then ! (load ! (from ! (stop !)) (look ! 18 refl))
           (and-then ! (load ! (from ! (fld ! refl (stop !))) (look-in ! 34 (sub ! 1 refl (whole !)))) (no-more !))))
           (from ! (stop !)) (init ! 16 refl (tt, (tt, (record { fits = room .0 }, tt)))) $
@@ -176,13 +184,15 @@ module _ {M : Type 1} (𝓤 : URA M) (H : Heap 𝓤) (A : Atoms 𝓤) (at-mem : 
           -- `set_pc`
           assigns ! (addr ! (from ! (stop !))) (from ! (stop !)) (init ! 14 refl (tt, tt)) $
           move ! (2 ∷ []) $ calls-set ! fm at-mem run known-set p₁ is₁ l₆ j j-fits
-          (λ _ _. and-then ! (load ! (from ! (stop !)) (look ! 15 refl)) (and-then ! (load ! (from ! (stop !)) (look ! 30 refl)) (no-more !)))
+          (λ _ _. and-then ! (load ! (from ! (stop !)) (look ! 15 refl))
+          (and-then ! (load ! (from ! (stop !)) (look ! 30 refl)) (no-more !)))
           (λ w₂ a₂ p₂ isa₂ is₂ e₂.
           land ! (from ! (stop !)) (store ! 22 refl (typed-outcome 𝓤 H A W a₂ w₂ isa₂)) $
           -- [the pen; the image; the image's token; first's token; second; second, kept; first, kept; second's token; the locals]
           -- `emit`
           assigns ! (addr ! (from ! (stop !))) (from ! (stop !)) (init ! 12 refl (tt, tt)) $
-          assigns ! (addr ! (from ! (fld ! refl (hop ! (look-in ! 33 (sub ! 0 refl (whole !))) (stop !))))) (from ! (stop !)) (init ! 10 refl (tt, tt)) $
+          assigns ! (addr ! (from ! (fld ! refl (hop ! (look-in ! 33 (sub ! 0 refl (whole !))) (stop !))))) (from ! (stop !))
+          (init ! 10 refl (tt, tt)) $
           assigns ! (agg ! (and-then ! (load ! (from ! (stop !)) (look ! 10 refl))
           (and-then ! (load ! (from ! (fld ! refl (stop !))) (look-in ! 33 (sub ! 1 refl (whole !)))) (no-more !))))
           (from ! (stop !)) (init ! 8 refl (tt, (tt, (record { fits = room .0 }, tt)))) $
@@ -195,7 +205,8 @@ module _ {M : Type 1} (𝓤 : URA M) (H : Heap 𝓤) (A : Atoms 𝓤) (at-mem : 
           -- [the pen; the image's last list; the image's token; second's token; first's token; second, kept; first, kept; the locals]
           -- the pen is given back
           assigns ! (of-opd ! (load ! (from ! (stop !)) (look ! 0 refl))) (from ! (stop !)) (init ! 36 refl (pen-typed 𝓤 H A W p₃ is₃)) $
-          returns ! (look ! 36 refl) $ forget ! 36 refl $ forget ! 34 refl $ forget ! 32 refl $ forget ! 30 refl $ forget ! 28 refl $ forget ! 26 refl $
+          returns ! (look ! 36 refl) $ forget ! 36 refl $ forget ! 34 refl $ forget ! 32 refl $ forget ! 30 refl $ forget ! 28 refl $
+          forget ! 26 refl $
           forget ! 0 refl $ forget ! 23 refl $ forget ! 21 refl $ forget ! 19 refl $ forget ! 17 refl $ forget ! 15 refl $
           forget ! 13 refl $ forget ! 11 refl $ forget ! 9 refl $ forget ! 7 refl $
           move ! (36 ∷ 37 ∷ []) $ free1 ! $ move ! (34 ∷ 35 ∷ []) $ free1 ! $ move ! (32 ∷ 33 ∷ []) $ free1 ! $
@@ -228,7 +239,8 @@ module _ {M : Type 1} (𝓤 : URA M) (H : Heap 𝓤) (A : Atoms 𝓤) (at-mem : 
         ))
         (λ κs qs bounds a _ are. via 𝓤 _ (fst∗ 𝓤 _ (emp 𝓤))
         (walk (κs .0) (κs .1 .0) (κs .1 .1 .0) bounds (qs .0) (qs .1 .0) (qs .1 .1 .0) (a .0) (are .0 .1)
-        (a .1 .0 .ptr .0) (a .1 .0 .ptr .1) (a .1 .0 .name) (a .1 .0 .now) (a .1 .1 .0) (a .1 .1 .1 .0) (are .1 .1 .1 .0 .1) (a .1 .1 .1 .1 .0)
+        (a .1 .0 .ptr .0) (a .1 .0 .ptr .1) (a .1 .0 .name) (a .1 .0 .now) (a .1 .1 .0) (a .1 .1 .1 .0) (are .1 .1 .1 .0 .1)
+        (a .1 .1 .1 .1 .0)
         C Λ fm known-begin known-set known-emit (are .1 .0 .0 .1) (are .1 .1 .0 .0 .1) (are .1 .1 .1 .1 .0 .0 .1)))
 
     meets : (𝓣 : Tables 𝓤 H) → Triple 𝓤 (𝓣 .C begin-code.name) Begin → Triple 𝓤 (𝓣 .C set-code.name) (SetPc 𝓤 H A at-mem run)
@@ -257,6 +269,9 @@ lend-spec 𝓤 H 𝓜 𝓖 𝓡 =
     entered 𝓤 H (tripleOf 𝓤 H (𝓖 .A) f.signature (f.spec 𝓤 H (𝓖 .A) (𝓜 .mem) (𝓡 .run)))
     (tables 𝓤 H 𝓜 𝓡 code.env .C) (tables 𝓤 H 𝓜 𝓡 code.env .Λ) name code.function (code.unfolded 𝓤 H 𝓜 𝓡)
     (meets 𝓤 H (𝓖 .A) (𝓜 .mem) (𝓡 .run) (givenOf 𝓤 H 𝓜 𝓖) (tablesOf 𝓤 H 𝓜 (tables 𝓤 H 𝓜 𝓡 code.env))
-    (cited 𝓤 H (Begin 𝓤 H (𝓖 .A) (𝓜 .mem) (𝓡 .run)) 𝓜 𝓡 code.env begin-code.name begin-code.routine code.calls-segment·begin (begin-met.met 𝓤 H 𝓜 𝓖 𝓡))
-    (cited 𝓤 H (SetPc 𝓤 H (𝓖 .A) (𝓜 .mem) (𝓡 .run)) 𝓜 𝓡 code.env set-code.name set-code.routine code.calls-lent-pen·set-pc (set-met.met 𝓤 H 𝓜 𝓖 𝓡))
-    (cited 𝓤 H (Emit 𝓤 H (𝓖 .A) (𝓜 .mem) (𝓡 .run)) 𝓜 𝓡 code.env emit-code.name emit-code.routine code.calls-lent-pen·emit (emit-met.met 𝓤 H 𝓜 𝓖 𝓡)))
+    (cited 𝓤 H (Begin 𝓤 H (𝓖 .A) (𝓜 .mem) (𝓡 .run)) 𝓜 𝓡 code.env begin-code.name begin-code.routine code.calls-segment·begin
+    (begin-met.met 𝓤 H 𝓜 𝓖 𝓡))
+    (cited 𝓤 H (SetPc 𝓤 H (𝓖 .A) (𝓜 .mem) (𝓡 .run)) 𝓜 𝓡 code.env set-code.name set-code.routine code.calls-lent-pen·set-pc
+    (set-met.met 𝓤 H 𝓜 𝓖 𝓡))
+    (cited 𝓤 H (Emit 𝓤 H (𝓖 .A) (𝓜 .mem) (𝓡 .run)) 𝓜 𝓡 code.env emit-code.name emit-code.routine code.calls-lent-pen·emit
+    (emit-met.met 𝓤 H 𝓜 𝓖 𝓡)))
