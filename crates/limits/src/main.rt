@@ -197,7 +197,7 @@ fn both(initial: usize, place: usize, size: usize) -> u8 {
     if 65537 < size {
         return 0;
     }
-    of_range(segment::emit_two(initial, &mut image[0..size], b"1", place, b"2"))
+    of_range(lent_pen::emit_two(initial, &mut image[0..size], b"1", place, b"2"))
 }
 
 // The number of range_data of an image of that size, up to 65,537.

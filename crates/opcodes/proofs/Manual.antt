@@ -4,15 +4,14 @@ use mathlib.Core.Path.{_≡_, refl, sym, ap, _∙_}
 use mathlib.Core.Logic.{_⊎_, inl, inr, ⊎-elim}
 use mathlib.Core.Bool.{Bool, true, false, not, _&&_, and-false, and-eq-true-iff}
 use mathlib.Core.List.{List, [], _∷_}
-use Prim.Native.Nat.{ℕ, suc, _<_, _≤_}
+use Prim.Native.Nat.{ℕ, _<_, _≤_}
 use native.Mathlib.Omega.{arith}
 use lib.Dec.{T, ltb, eqb, lit<}
 use lib.ListN.{getD, List·getD-eq-default}
 use borrow.Author.Tests.{ltb-true, ltb-false, ne-eqb, not-true, not-false}
 use Rattle.refusals.specs.Each.{Each}
 use Rattle.opcodes.specs.declared.Form.{Form}
-use Rattle.opcodes.specs.declared.Row.{Row}
-use Rattle.opcodes.specs.Manual.{Mode, acc, imm, zp, zpX, zpY, abs, absX, absY, imp, rel, indX, indY, ind, Entry, _is_, written, isWritten, operandBytes, keep, pages, formsIn, formsOf, rowsIn, rowsFrom, rowsOf}
+use Rattle.opcodes.specs.Manual.{Mode, acc, imm, zp, zpX, zpY, abs, absX, absY, imp, rel, indX, indY, ind, Entry, _is_, written, isWritten, operandBytes, keep, pages, formsIn, formsOf}
 use Rattle.opcodes.specs.Encode.{inRange}
 
 -- ---- a mode
@@ -38,7 +37,7 @@ mode-limit k = lit< (in-limits k .0)
 suffix-limit : (k : Mode) → written k .suffix < 3
 suffix-limit k = lit< (in-limits k .1)
 
-operand-limit : (k : Mode) → operandBytes k < 3
+pub operand-limit : (k : Mode) → operandBytes k < 3
 operand-limit k = lit< (in-limits k .2)
 
 -- ---- the ranges
@@ -84,7 +83,7 @@ beyond m o s {r} e n =
 
 -- ---- at most two operand bytes
 
-kept : {A : Type 0} (P : A → Type 0) (b : Bool) (x : A) (xs : List A) → P x → Each P xs → Each P (keep b x xs)
+pub kept : {A : Type 0} (P : A → Type 0) (b : Bool) (x : A) (xs : List A) → P x → Each P xs → Each P (keep b x xs)
 kept P true x xs p ps = (p, ps)
 kept P false x xs p ps = ps
 
@@ -98,18 +97,3 @@ forms-in o s ((k is op) ∷ es) = kept shortForm (isWritten k o s) _ _ (operand-
 pub short-forms : (m o s : ℕ) → Each shortForm (formsOf m o s)
 unfolding formsOf
 short-forms m o s = forms-in o s (getD pages m [])
-
-abbrev pub shortRow : Row → Type 0
-shortRow r = r .operand < 3
-
-rows-in : (opcode m : ℕ) (es : List Entry) (rows : List Row) → Each shortRow rows → Each shortRow (rowsIn opcode m es rows)
-rows-in opcode m [] rows h = h
-rows-in opcode m ((k is op) ∷ es) rows h = kept shortRow (eqb op opcode) _ _ (operand-limit k) (rows-in opcode m es rows h)
-
-rows-from : (opcode m : ℕ) (ps : List (List Entry)) → Each shortRow (rowsFrom opcode m ps)
-rows-from opcode m [] = tt
-rows-from opcode m (p ∷ ps) = rows-in opcode m p _ (rows-from opcode (suc m) ps)
-
-pub short-rows : (opcode : ℕ) → Each shortRow (rowsOf opcode)
-unfolding rowsOf
-short-rows opcode = rows-from opcode 0 pages

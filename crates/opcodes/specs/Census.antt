@@ -1,5 +1,5 @@
 -- The manual counted. Document 01: "114 rows of mnemonic, mode and suffix give all 151 documented opcodes, no opcode twice;
--- 37 rows have a one-byte and a two-byte operand form", and "none" for 105 bytes. Assumes nothing: these are definitions.
+-- 37 rows have a one-byte and a two-byte operand form". Assumes nothing: these are definitions.
 use mathlib.Core.Path.{_≡_}
 use mathlib.Core.Bool.{Bool, false, _||_}
 use mathlib.Core.List.{List, [], _∷_, _++_, map}
@@ -8,8 +8,7 @@ use lib.Dec.{eqb}
 use lib.ListN.{length}
 use Rattle.refusals.specs.Answer.{pick}
 use Rattle.opcodes.specs.declared.Form.{Form}
-use Rattle.opcodes.specs.declared.Row.{Row}
-use Rattle.opcodes.specs.Manual.{formsOf, rowsOf}
+use Rattle.opcodes.specs.Manual.{formsOf}
 
 -- what f gives below n, the last first
 abbrev pub below : {A : Type 0} → (ℕ → A) → ℕ → List A
@@ -44,19 +43,15 @@ pub record Census : Type 0 where
   pub opcodes : ℕ
   pub twice : ℕ
   pub two-forms : ℕ
-  pub none : ℕ
 
-abbrev pub counted : List (List Form) → List (List Row) → Census
-counted rows bytes = record {
+abbrev pub counted : List (List Form) → Census
+counted rows = record {
   rows = ofLength 1 rows + ofLength 2 rows;
   opcodes = length (opcodes rows);
   twice = repeated (opcodes rows);
   two-forms = ofLength 2 rows;
-  none = ofLength 0 bytes;
 }
 
--- over all triples, and all bytes
+-- over all triples
 abbrev pub Counted : Type 0
-Counted =
-    counted (below (triple formsOf) 840) (below rowsOf 256)
-    ≡ record { rows = 114; opcodes = 151; twice = 0; two-forms = 37; none = 105 }
+Counted = counted (below (triple formsOf) 840) ≡ record { rows = 114; opcodes = 151; twice = 0; two-forms = 37 }

@@ -2,6 +2,4 @@
 pub mod Manual
 pub mod Census
 pub mod Encode
-pub mod Decode
-pub mod Branch
 pub mod Says

@@ -1,13 +1,12 @@
 -- The MCS6500 programming manual's instructions: the thirteen addressing modes with their bytes, and for each mnemonic its
 -- modes with their opcodes, in the order of its page. Then how document 01 writes a mode, and what a row of document 01 is.
 -- Assumes nothing: these are definitions.
-use Prim.Native.Nat.{ℕ, suc, _-_}
+use Prim.Native.Nat.{ℕ, _-_}
 use mathlib.Core.Bool.{Bool, true, false, _&&_, _||_}
 use mathlib.Core.List.{List, [], _∷_, map}
 use lib.Dec.{eqb}
 use lib.ListN.{getD}
 use Rattle.opcodes.specs.declared.Form.{Form}
-use Rattle.opcodes.specs.declared.Row.{Row}
 
 -- accumulator, immediate, zero page, zero page X, zero page Y, absolute, absolute X, absolute Y, implied, relative,
 -- (indirect,X), (indirect),Y, absolute indirect
@@ -181,21 +180,3 @@ branchIn mode suffix ((k is opcode) ∷ es) = (isRelative k && isWritten k mode 
 -- whether a row is a branch
 unfoldable pub isBranch : ℕ → ℕ → ℕ → Bool
 isBranch mnemonic mode suffix = branchIn mode suffix (getD pages mnemonic [])
-
-abbrev pub row : ℕ → ℕ → ℕ → ℕ → Row
-row mnemonic mode suffix operand = record { mnemonic = mnemonic; mode = mode; suffix = suffix; operand = operand }
-
--- the rows of a page that have this opcode, before others
-abbrev pub rowsIn : ℕ → ℕ → List Entry → List Row → List Row
-rowsIn opcode mnemonic [] rows = rows
-rowsIn opcode mnemonic ((k is op) ∷ es) rows =
-    keep (eqb op opcode) (row mnemonic (written k .mode) (written k .suffix) (operandBytes k)) (rowsIn opcode mnemonic es rows)
-
--- the same of all pages, the first of them the mnemonic's
-abbrev pub rowsFrom : ℕ → ℕ → List (List Entry) → List Row
-rowsFrom opcode mnemonic [] = []
-rowsFrom opcode mnemonic (p ∷ ps) = rowsIn opcode mnemonic p (rowsFrom opcode (suc mnemonic) ps)
-
--- the inverse: the rows that have this opcode, each with its operand length; none for a byte that is no opcode
-unfoldable pub rowsOf : ℕ → List Row
-rowsOf opcode = rowsFrom opcode 0 pages

@@ -1,29 +1,20 @@
-// The 6502's opcodes: what forms a row has, an instruction's bytes, the way back from bytes, and a branch's operand byte.
-// A row is a mnemonic, a mode and a suffix, in document 01's numbers. `forms_of` alone knows the packed tables, and `row_of`
-// alone the inverse table: everything else goes through them.
+// The 6502's opcodes: what forms a row has, and an instruction's bytes. A row is a mnemonic, a mode and a suffix, in document 01's
+// numbers. `forms_of` alone knows the packed tables: everything else goes through it.
 mod tables;
 
-use int64::Number;
 use refusals::ARGUMENT;
-use refusals::CUT_SHORT;
 use refusals::NO_ROW;
-use refusals::TOO_FAR;
 use refusals::TOO_SMALL;
-use tables::NO_OPCODE;
 use tables::OPCODES;
-use tables::ROWS;
 use tables::SHAPES;
 use tables::SHIFTS;
 ghost use mathlib.Core.Path.{_≡_};
 ghost use mathlib.Core.List.{_∷_, []};
 ghost use Prim.Native.Nat.{_<_};
-ghost use lib.IntN.{pos, _-ℤ_};
 ghost use Rattle.refusals.specs.Answer.{mapped};
-ghost use Rattle.opcodes.specs.Manual.{formsOf, isBranch, rowsOf};
+ghost use Rattle.opcodes.specs.Manual.{formsOf, isBranch};
 ghost use Rattle.opcodes.specs.Encode.{lengthOf, takes, bytesOf, tried, inRange, encodeOf, code};
-ghost use Rattle.opcodes.specs.Decode.{decodeRow, decodeOf};
-ghost use Rattle.opcodes.specs.Branch.{byteOf, distanceOf};
-ghost use Rattle.opcodes.specs.Says.{listed, saysEncoded, saysKnown, saysDecoded, saysDistance};
+ghost use Rattle.opcodes.specs.Says.{listed, saysEncoded};
 
 // An opcode, and how many operand bytes stand behind it.
 pub struct Form {
@@ -52,32 +43,6 @@ pub enum Encoded {
     Refused(u8),
 }
 
-// A row, and how many operand bytes stand behind its opcode.
-pub struct Row {
-    pub mnemonic: u8,
-    pub mode: u8,
-    pub suffix: u8,
-    pub operand: u8,
-}
-
-// The row of an opcode, or none.
-pub enum Known {
-    Is(Row),
-    Nothing,
-}
-
-// An instruction, or a refusal.
-pub enum Decoded {
-    Instruction { row: Row, operand: u16 },
-    Refused(u8),
-}
-
-// A branch's operand byte, or a refusal.
-pub enum Distance {
-    Byte(u8),
-    Refused(u8),
-}
-
 const MNEMONICS: u8 = 56;
 
 const MODES: u8 = 5;
@@ -88,13 +53,6 @@ const SUFFIXES: u8 = 3;
 const FIVE_BITS: u8 = 32;
 
 const BRANCH_BITS: u8 = 16;
-
-// A branch's bytes; its offset counts from behind them.
-const BRANCH_LENGTH: i64 = 2;
-
-const FARTHEST_BACK: i64 = -128;
-
-const FARTHEST_AHEAD: i64 = 127;
 
 // Whether a mnemonic, a mode and a suffix are in document 01's ranges.
 pub fn in_range(mnemonic: u8, mode: u8, suffix: u8) -> bool
@@ -223,96 +181,5 @@ pub fn encode(mnemonic: u8, mode: u8, suffix: u8, operand: i64) -> Encoded
                 tried(long, operand)
             }
         }
-    }
-}
-
-// The row of an opcode, with how many operand bytes stand behind it; nothing for a byte that is no opcode.
-pub fn row_of(opcode: u8) -> Known
-    ensures { λ r. ⌜ saysKnown r ≡ rowsOf opcode ⌝ }
-{
-    let row = ROWS[opcode as usize];
-    if row == NO_OPCODE {
-        return Known::Nothing;
-    }
-    Known::Is(Row {
-        mnemonic: (row / 256 % 256) as u8,
-        mode: (row / 16 % 16) as u8,
-        suffix: (row / 4 % 4) as u8,
-        operand: (row % 4) as u8,
-    })
-}
-
-// x, as a wider number.
-fn wide(x: u8) -> u16
-    ensures { λ r. ⌜ r ≡ x ⌝ }
-{
-    x as u16
-}
-
-// The instruction of a row and the bytes behind its opcode.
-fn decode_row(row: Row, rest: &[u8]) -> Decoded
-    requires { ⌜ row .operand < 3 ⌝ }
-    ensures { λ r. ⌜ saysDecoded r ≡ decodeRow (row ∷ []) (now (rest .entry)) ⌝ }
-{
-    let n = row.operand as usize;
-    if rest.len() < n {
-        return Decoded::Refused(CUT_SHORT);
-    }
-    if n == 0 {
-        return Decoded::Instruction { row, operand: 0 };
-    }
-    let low = wide(rest[0]);
-    if n == 1 {
-        return Decoded::Instruction { row, operand: low };
-    }
-    Decoded::Instruction {
-        row,
-        operand: low + 256 * wide(rest[1]),
-    }
-}
-
-// The instruction at the start of these bytes; what stands behind it is ignored.
-pub fn decode(bytes: &[u8]) -> Decoded
-    ensures { λ r. ⌜ saysDecoded r ≡ decodeOf (now (bytes .entry)) ⌝ }
-{
-    if bytes.len() == 0 {
-        return Decoded::Refused(CUT_SHORT);
-    }
-    match row_of(bytes[0]) {
-        Known::Nothing => Decoded::Refused(NO_ROW),
-        Known::Is(row) => decode_row(row, &bytes[1..]),
-    }
-}
-
-// The operand byte that stands for an offset from the next instruction.
-fn operand_byte(offset: i64) -> Distance
-    ensures { λ r. ⌜ saysDistance r ≡ byteOf offset ⌝ }
-{
-    if offset < FARTHEST_BACK {
-        return Distance::Refused(TOO_FAR);
-    }
-    if FARTHEST_AHEAD < offset {
-        return Distance::Refused(TOO_FAR);
-    }
-    Distance::Byte(int64::low_byte(offset))
-}
-
-// The operand byte of a branch whose target is this far from its place.
-fn from_place(ahead: i64) -> Distance
-    ensures { λ r. ⌜ saysDistance r ≡ byteOf (ahead -ℤ pos 2) ⌝ }
-{
-    match int64::sub(ahead, BRANCH_LENGTH) {
-        Number::Is(offset) => operand_byte(offset),
-        Number::Refused(_) => Distance::Refused(TOO_FAR),
-    }
-}
-
-// The operand byte of a branch at a place to a target.
-pub fn distance_of(place: i64, target: i64) -> Distance
-    ensures { λ r. ⌜ saysDistance r ≡ distanceOf place target ⌝ }
-{
-    match int64::sub(target, place) {
-        Number::Is(ahead) => from_place(ahead),
-        Number::Refused(_) => Distance::Refused(TOO_FAR),
     }
 }

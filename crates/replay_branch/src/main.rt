@@ -1,8 +1,8 @@
 // Answers each question of 16 bytes on standard input: a branch's place and its target, an i64 each.
 // An answer is the operand byte in capital hex, or `refused`, on a line of its own.
+use branch::Distance;
 use libc::STDIN_FILENO;
 use libc::STDOUT_FILENO;
-use opcodes::Distance;
 
 // Prints an answer.
 fn print_answer(answer: Distance) {
@@ -24,7 +24,7 @@ fn answer() -> bool {
     }
     let place = little::i64_at(&question, 0);
     let target = little::i64_at(&question, 8);
-    print_answer(opcodes::distance_of(place, target));
+    print_answer(branch::distance_of(place, target));
     io::write_all(STDOUT_FILENO, b"\n")
 }
 

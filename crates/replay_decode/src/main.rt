@@ -1,10 +1,10 @@
 // Answers each question of 4 bytes on standard input: how many bytes there are, 0 to 3, and three bytes, of which that many are
 // decoded. An answer is mnemonic, mode, suffix, operand length and operand in decimal, or `refused` and the refusal's number,
 // on a line of its own.
+use inverse::Decoded;
+use inverse::Row;
 use libc::STDIN_FILENO;
 use libc::STDOUT_FILENO;
-use opcodes::Decoded;
-use opcodes::Row;
 
 // Prints a number with a space before it.
 fn print_further(n: u64) {
@@ -35,7 +35,7 @@ fn print_answer(answer: Decoded) {
 // Decodes as many of these bytes as the count says, or all if there are fewer.
 fn decode(bytes: &[u8], count: u8) -> Decoded {
     let n = io::count(count as isize, bytes);
-    opcodes::decode(&bytes[..n])
+    inverse::decode(&bytes[..n])
 }
 
 // Answers one question; whether there was one.

@@ -17,7 +17,7 @@ use Rattle.segment.specs.declared.Pen.{Pen}
 use Rattle.segment.specs.declared.Drawn.{Drawn}
 use Rattle.segment.proofs.Drawn as D
 use Rattle.segment.proofs.Drawn.Laws as D′
-use Rattle.segment.proofs.Parts.{pens, IsPen, drawn-typed}
+use Rattle.lent_pen.proofs.Parts.{pens, IsPen, drawn-typed}
 
 abbrev pub drawn : Pen → Outcome → Drawn
 drawn p a = record { pen = p; answer = a }

@@ -178,21 +178,21 @@ fn draw(operation: u8, a: usize, b: usize, pen: Pen, image: &mut [u8], bytes: &[
 // Resets a pen that is held here and lent.
 fn lent_reset(pen: Pen) -> Drawn {
     let mut held = pen;
-    let answer = held.reset();
+    let answer = lent_pen::reset(&mut held);
     Drawn { pen: held, answer }
 }
 
 // Moves the place of a pen that is held here and lent.
 fn lent_set_pc(pen: Pen, pc: usize) -> Drawn {
     let mut held = pen;
-    let answer = held.set_pc(pc);
+    let answer = lent_pen::set_pc(&mut held, pc);
     Drawn { pen: held, answer }
 }
 
 // Emits the bytes with a pen that is held here and lent.
 fn lent_emit(pen: Pen, image: &mut [u8], bytes: &[u8]) -> Drawn {
     let mut held = pen;
-    let answer = held.emit(image, bytes);
+    let answer = lent_pen::emit(&mut held, image, bytes);
     Drawn { pen: held, answer }
 }
 

@@ -140,15 +140,19 @@ module _ (a b : ℕ) (h : a < 2 ^ 63) (k : b < 2 ^ 63) where
 
 -- ---- the image
 
--- bytes over the image as it is, and over one that was cleared
-module _ (image bytes : List ℕ) (at : ℕ) {t : Bool} {after : List ℕ} where
-  pub over-again : t ≡ true → after ≡ over image at bytes → after ≡ over (ground t image) at bytes
+-- what the bytes go over: the image as it is, or one that was cleared
+module _ (image : List ℕ) {t : Bool} where
+  pub ground-kept : t ≡ true → image ≡ ground t image
   unfolding ground
-  over-again e f = simp e f
+  ground-kept e = simp e
 
-  pub over-first : {before : List ℕ} → t ≡ false → before ≡ replicate (length image) 0 → after ≡ over before at bytes → after ≡ over (ground t image) at bytes
+  pub ground-cleared : {after : List ℕ} → t ≡ false → after ≡ replicate (length image) 0 → after ≡ ground t image
   unfolding ground
-  over-first e z f = simp e (f ∙ ap (λ (l : List ℕ). over l at bytes) z)
+  ground-cleared e f = simp e f
+
+pub over-ground : (bytes : List ℕ) (at : ℕ) {before ground after : List ℕ} → before ≡ ground → after ≡ over before at bytes
+    → after ≡ over ground at bytes
+over-ground bytes at e f = f ∙ ap (λ (l : List ℕ). over l at bytes) e
 
 -- the part that the range covers: none before the first emit
 module _ (p : Pen) (image : List ℕ) {t : Bool} (e : t ≡ soundOver p (length image)) (passes : not t ≡ false) where

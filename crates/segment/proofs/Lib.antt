@@ -2,8 +2,3 @@
 pub mod Laws
 pub mod Kept
 pub mod Unique
-pub mod Walk
-pub mod Parts
-pub mod Loans
-pub mod Calls
-pub mod Two

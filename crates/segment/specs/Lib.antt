@@ -1,4 +1,2 @@
 pub mod Segment
 pub mod Says
-pub mod Two
-pub mod Steps

@@ -1,11 +1,8 @@
 // The segment: a pen that writes bytes into a lent image of 65,536 bytes, under the Rust's names. The pen is a small struct; the
 // image stands beside it, so that writing one byte costs one byte. reset, set_pc and emit are here functions that take a pen and give
-// one; the methods of these names, in lent.rt, change a pen that is lent. A call on a pen or an image that is not sound is refused
-// (1), and a refused call changes nothing.
-mod lent;
-
+// one; those of the crate lent_pen change a pen that is lent. A call on a pen or an image that is not sound is refused (1), and a
+// refused call changes nothing; is_sound, is_sound_over and has_room only tell.
 use int64::Number;
-pub use lent::emit_two;
 use program_counter::Extent;
 use program_counter::Place;
 use program_counter::ProgramCounter;
@@ -16,7 +13,7 @@ use refusals::Outcome;
 ghost use mathlib.Core.Path.{_≡_};
 ghost use Prim.Native.Nat.{_+_, _≤_, min, max};
 ghost use lib.IntN.{pos, _-ℤ_};
-ghost use lib.ListN.{length, replicate};
+ghost use lib.ListN.{length};
 ghost use Rattle.refusals.specs.Answer.{outcome, Done, Refused};
 ghost use Rattle.refusals.specs.Memory.{over};
 ghost use Rattle.int64.specs.Says.{says};
@@ -133,7 +130,7 @@ impl Pen {
     }
 
     // Whether the places are at most 65,536 and the range runs forward.
-    fn is_sound(self) -> bool
+    pub fn is_sound(self) -> bool
         ensures { λ r. ⌜ r ≡ sound self ⌝ }
     {
         if SIZE < self.place {
@@ -152,7 +149,7 @@ impl Pen {
     }
 
     // Whether the pen is sound, and over an image of the one length there is.
-    fn is_sound_over(self, length: usize) -> bool
+    pub fn is_sound_over(self, length: usize) -> bool
         ensures { λ r. ⌜ r ≡ soundOver self length ⌝ }
     {
         if length != SIZE {
@@ -162,7 +159,7 @@ impl Pen {
     }
 
     // Whether so many bytes fit at the place, which is itself inside the image.
-    fn has_room(self, count: usize) -> bool
+    pub fn has_room(self, count: usize) -> bool
         ensures { λ r. ⌜ r ≡ fits self count ⌝ }
     {
         if SIZE <= self.place {
@@ -266,8 +263,8 @@ fn moved(pen: Pen) -> Drawn
     }
 }
 
-// A pen at its initial place, with nothing emitted.
-fn begin(initial: usize, target: usize) -> Pen
+// A pen at its initial place, with nothing emitted. Nothing is tested: is_sound tells whether the two places are there.
+pub fn begin(initial: usize, target: usize) -> Pen
     ensures { λ r. ⌜ r ≡ begun initial target ⌝ }
 {
     Pen {
@@ -307,18 +304,17 @@ fn draw(image: &mut [u8], at: usize, bytes: &[u8], emitted: bool)
     requires { ⌜ at + length (now bytes) ≤ length (now image) ⌝ }
     ensures { λ _. ⌜ now (image .exit) ≡ over (ground emitted (now (image .entry))) at (now (bytes .entry)) ⌝ }
 {
-    if emitted {
-        copy_in(image, at, bytes);
-        return;
-    }
-    zero(image);
+    clear(image, emitted);
     copy_in(image, at, bytes);
 }
 
-// Makes every byte zero.
-fn zero(image: &mut [u8])
-    ensures { λ _. ⌜ now (image .exit) ≡ replicate (length (now (image .entry))) 0 ⌝ }
+// Makes every byte zero where nothing was emitted yet.
+fn clear(image: &mut [u8], emitted: bool)
+    ensures { λ _. ⌜ now (image .exit) ≡ ground emitted (now (image .entry)) ⌝ }
 {
+    if emitted {
+        return;
+    }
     let mut i = 0;
     while i < image.len() {
         image[i] = 0;

@@ -18,9 +18,9 @@ use Rattle.int64.specs.Num.{modZ}
 use Rattle.opcodes.specs.declared.Form.{Form}
 use Rattle.opcodes.specs.Manual.{formsOf, isBranch}
 use Rattle.opcodes.specs.Encode.{lengthOf, lowFirst, takes, bytesOf, tried, encodeForms, inRange, encodeOf}
-use Rattle.opcodes.specs.Branch.{distanceOf}
 use Rattle.opcodes.proofs.Encoding.{length-bytesOf}
 use Rattle.opcodes.proofs.Single.{branch-single, implied-single}
+use Rattle.branch.specs.Branch.{distanceOf}
 use Rattle.text_encoding.specs.Petscreen.{petscreenOf}
 use Rattle.tape.specs.Kinds.{setPlace}
 use Rattle.form.specs.Statements.{What, Instruction, Open, Close, Label, Constant, SetPlace, Byte, Word, Screen, whatOf, placed}

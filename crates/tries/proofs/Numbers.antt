@@ -20,7 +20,7 @@ use Rattle.opcodes.specs.declared.Form.{Form}
 use Rattle.opcodes.specs.Manual.{formsOf, isBranch}
 use Rattle.opcodes.specs.Encode as encode
 use Rattle.opcodes.specs.Encode.{takes, bytesOf, encodeForms, inRange, encodeOf}
-use Rattle.opcodes.specs.Branch.{offset, inReach, distanceOf}
+use Rattle.branch.specs.Branch.{offset, inReach, distanceOf}
 use Rattle.segment.specs.declared.Pen.{Pen}
 use Rattle.segment.specs.Segment.{sound, soundOver, ofPen, ofBoth, setPc, fits, widened, emit, imageAfter}
 use Rattle.segment.proofs.Kept.{set-pc-sound, emit-sound, emit-length}

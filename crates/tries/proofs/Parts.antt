@@ -19,14 +19,15 @@ use Rattle.refusals.specs.Table.{outside}
 use Rattle.refusals.proofs.Pick.{granted, at-true, stopped}
 use Rattle.int64.proofs.Laws.{back, eqZ-yes, eqZ-no, same-bits}
 use Rattle.opcodes.specs.declared.Code.{Code}
-use Rattle.opcodes.specs.declared.Distance as B
-use Rattle.opcodes.specs.declared.Distance.the-variants as distance
 use Rattle.opcodes.specs.declared.Encoded as E
 use Rattle.opcodes.specs.declared.Encoded.the-variants as encoded
 use Rattle.opcodes.specs.Manual.{isBranch}
 use Rattle.opcodes.specs.Encode.{code, lowFirst, encodeOf}
-use Rattle.opcodes.specs.Branch.{distanceOf}
-use Rattle.opcodes.specs.Says.{saysEncoded, saysDistance}
+use Rattle.opcodes.specs.Says.{saysEncoded}
+use Rattle.branch.specs.declared.Distance as B
+use Rattle.branch.specs.declared.Distance.the-variants as distance
+use Rattle.branch.specs.Branch.{distanceOf}
+use Rattle.branch.specs.Says.{saysDistance}
 use Rattle.symbols.specs.declared.Data as D
 use Rattle.symbols.specs.declared.Data.the-variants as datum
 use Rattle.symbols.specs.Says.{saysData}

@@ -12,7 +12,7 @@ use Rattle.refusals.specs.Table.{unresolved, outside}
 use Rattle.int64.specs.Num.{modZ}
 use Rattle.opcodes.specs.Manual.{isBranch}
 use Rattle.opcodes.specs.Encode.{lowFirst, encodeOf}
-use Rattle.opcodes.specs.Branch.{distanceOf}
+use Rattle.branch.specs.Branch.{distanceOf}
 use Rattle.text_encoding.specs.Petscreen.{petscreenOf}
 use Rattle.form.specs.Statements.{What, Instruction, Open, Close, Label, Constant, SetPlace, Byte, Word, Screen, placed}
 use Rattle.evaluator.specs.Expression.{Value, Number, Unresolved, Refuses}

@@ -1,9 +1,9 @@
 // The last walk over a tape: each statement is tried, in tape order, and what it writes is drawn into an image. The lent image is
 // written once every statement has passed.
+use branch::Distance;
 use evaluator::Value;
 use form::LONGEST;
 use opcodes::Code;
-use opcodes::Distance;
 use opcodes::Encoded;
 use refusals::ARGUMENT;
 use refusals::OUTSIDE;
@@ -522,7 +522,7 @@ fn instruction(rec: &[u8], place: i64, z: i64) -> Encoded
     ) {
         return encode(rec, z);
     }
-    match opcodes::distance_of(place, z) {
+    match branch::distance_of(place, z) {
         Distance::Refused(number) => Encoded::Refused(number),
         Distance::Byte(b) => encode(rec, b as i64),
     }

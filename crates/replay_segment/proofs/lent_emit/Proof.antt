@@ -1,22 +1,22 @@
 -- `lent_emit` meets its contract, which asks and says nothing, by a walk through its code: the pen is copied into a local and lent to
--- `Pen::emit`, of which only its contract is known, with image and bytes; what it left and answered is the `Drawn`. Assumes nothing.
-use Rattle.segment.proofs.Walk.{_≡_, refl, ℕ, [], _∷_, List, length, URA, named, Val, SProp, ent, emp, via, fst∗, Lft, Share, Fml, ftrue}
-use Rattle.segment.proofs.Walk.{flft, Memory, Routine, Heap, Calls, Loops, WpFn, Tables, Atoms, Fun, givenOf, tables, tablesOf}
-use Rattle.segment.proofs.Walk.{AllOutlive, FmC, fmOf, WpFn-mono, Given, ‵, _⊛_, ⋆, _$_, _∵_, !, qed, by, move, keep, drop, use1, split}
-use Rattle.segment.proofs.Walk.{join, fsplit, fjoin, suffices, frame, done, look, init, forget, stop, hop, fld, from, load, addr, of-opd}
-use Rattle.segment.proofs.Walk.{and-then, no-more, assigns, land, returns, enter, alloc1, alloc0, params1, pass1, pass0, free1, free0}
-use Rattle.segment.proofs.Walk.{agg, whole, sub, look-in, owns, Is, u8, yes, RefT, sliceVal, MutSlice, ShrSlice, Room, finally}
-use Rattle.segment.proofs.Walk.{slice-vals, mut-slice-tells, shr-slice-tells, shr-slice-copy, plain, only, nothing, onEntry, Meets}
-use Rattle.segment.proofs.Walk.{tripleOf, Triple, entered, cited, Stays, stay-none, gave-slice, stay-none-slice, walkOf, goes-none}
-use Rattle.segment.proofs.Walk.{goes-gave-slice, goes-none-slice, Walks, ends-at, walked, walk-meets}
+-- `lent_pen::emit`, of which only its contract is known, with image and bytes; what it left and answered is the `Drawn`. Assumes nothing.
+use Rattle.lent_pen.proofs.Walk.{_≡_, refl, ℕ, [], _∷_, List, length, URA, named, Val, SProp, ent, emp, via, fst∗, Lft, Share, Fml, ftrue}
+use Rattle.lent_pen.proofs.Walk.{flft, Memory, Routine, Heap, Calls, Loops, WpFn, Tables, Atoms, Fun, givenOf, tables, tablesOf}
+use Rattle.lent_pen.proofs.Walk.{AllOutlive, FmC, fmOf, WpFn-mono, Given, ‵, _⊛_, ⋆, _$_, _∵_, !, qed, by, move, keep, drop, use1, split}
+use Rattle.lent_pen.proofs.Walk.{join, fsplit, fjoin, suffices, frame, done, look, init, forget, stop, hop, fld, from, load, addr, of-opd}
+use Rattle.lent_pen.proofs.Walk.{and-then, no-more, assigns, land, returns, enter, alloc1, alloc0, params1, pass1, pass0, free1, free0}
+use Rattle.lent_pen.proofs.Walk.{agg, whole, sub, look-in, owns, Is, u8, yes, RefT, sliceVal, MutSlice, ShrSlice, Room, finally}
+use Rattle.lent_pen.proofs.Walk.{slice-vals, mut-slice-tells, shr-slice-tells, shr-slice-copy, plain, only, nothing, onEntry, Meets}
+use Rattle.lent_pen.proofs.Walk.{tripleOf, Triple, entered, cited, Stays, stay-none, gave-slice, stay-none-slice, walkOf, goes-none}
+use Rattle.lent_pen.proofs.Walk.{goes-gave-slice, goes-none-slice, Walks, ends-at, walked, walk-meets}
 use Rattle.refusals.specs.declared.Outcome.{Outcome}
 use Rattle.refusals.proofs.Outcome as O
 use Rattle.segment.specs.declared.Pen.{Pen}
 use Rattle.segment.proofs.Pen as P
-use Rattle.segment.proofs.Parts.{pens, IsPen, pen-tells, pen-typed, typed-outcome, owned-pen}
-use Rattle.segment.proofs.Calls.{Emit, calls-emit}
-use Rattle.segment.proofs.Pen.emit.Symbol as callee-code
-use Rattle.segment.proofs.Pen.emit.Met as callee-met
+use Rattle.lent_pen.proofs.Parts.{pens, IsPen, pen-tells, pen-typed, typed-outcome, owned-pen}
+use Rattle.lent_pen.proofs.Calls.{Emit, calls-emit}
+use Rattle.lent_pen.proofs.emit.Symbol as callee-code
+use Rattle.lent_pen.proofs.emit.Met as callee-met
 use Rattle.replay_segment.proofs.Held.{drawn, made, typed-drawn, owned-drawn}
 use Rattle.replay_segment.proofs.lent_emit.Key.{name}
 use Rattle.replay_segment.proofs.lent_emit as f
@@ -143,4 +143,4 @@ lent-emit-spec 𝓤 H 𝓜 𝓖 𝓡 =
     (tables 𝓤 H 𝓜 𝓡 code.env .C) (tables 𝓤 H 𝓜 𝓡 code.env .Λ) name code.function (code.unfolded 𝓤 H 𝓜 𝓡)
     (meets 𝓤 H (𝓖 .A) (𝓜 .mem) (𝓡 .run) (givenOf 𝓤 H 𝓜 𝓖) (tablesOf 𝓤 H 𝓜 (tables 𝓤 H 𝓜 𝓡 code.env))
     (cited 𝓤 H (Emit 𝓤 H (𝓖 .A) (𝓜 .mem) (𝓡 .run)) 𝓜 𝓡 code.env callee-code.name callee-code.routine
-    code.calls-segment·Pen·emit (callee-met.met 𝓤 H 𝓜 𝓖 𝓡)))
+    code.calls-lent-pen·emit (callee-met.met 𝓤 H 𝓜 𝓖 𝓡)))

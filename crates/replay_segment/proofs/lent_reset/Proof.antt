@@ -1,19 +1,19 @@
 -- `lent_reset` meets its contract, which asks and says nothing, by a walk through its code: the pen is copied into a local and lent to
--- `Pen::reset`, of which only its contract is known; the pen that it left and its answer are the `Drawn`. Assumes nothing.
-use Rattle.segment.proofs.Walk.{refl, [], _∷_, URA, Val, SProp, ent, emp, via, fst∗, ftrue, Memory, Routine, Heap, Calls, Loops, WpFn}
-use Rattle.segment.proofs.Walk.{Tables, Atoms, Fun, givenOf, tables, tablesOf, FmC, fmOf, WpFn-mono, Given, ‵, ⋆, _$_, _∵_, !, qed, by}
-use Rattle.segment.proofs.Walk.{move, keep, join, fjoin, suffices, frame, done, look, init, forget, stop, from, load, addr, of-opd}
-use Rattle.segment.proofs.Walk.{and-then, no-more, assigns, land, returns, enter, alloc1, alloc0, params1, pass1, pass0, free1, free0}
-use Rattle.segment.proofs.Walk.{agg, owns, Is, yes, only, nothing, onEntry, Meets, tripleOf, Triple, entered, cited, Stays, stay-none}
-use Rattle.segment.proofs.Walk.{walkOf, goes-none, Walks, ends-at, walked, walk-meets}
+-- `lent_pen::reset`, of which only its contract is known; the pen that it left and its answer are the `Drawn`. Assumes nothing.
+use Rattle.lent_pen.proofs.Walk.{refl, [], _∷_, URA, Val, SProp, ent, emp, via, fst∗, ftrue, Memory, Routine, Heap, Calls, Loops, WpFn}
+use Rattle.lent_pen.proofs.Walk.{Tables, Atoms, Fun, givenOf, tables, tablesOf, FmC, fmOf, WpFn-mono, Given, ‵, ⋆, _$_, _∵_, !, qed, by}
+use Rattle.lent_pen.proofs.Walk.{move, keep, join, fjoin, suffices, frame, done, look, init, forget, stop, from, load, addr, of-opd}
+use Rattle.lent_pen.proofs.Walk.{and-then, no-more, assigns, land, returns, enter, alloc1, alloc0, params1, pass1, pass0, free1, free0}
+use Rattle.lent_pen.proofs.Walk.{agg, owns, Is, yes, only, nothing, onEntry, Meets, tripleOf, Triple, entered, cited, Stays, stay-none}
+use Rattle.lent_pen.proofs.Walk.{walkOf, goes-none, Walks, ends-at, walked, walk-meets}
 use Rattle.refusals.specs.declared.Outcome.{Outcome}
 use Rattle.refusals.proofs.Outcome as O
 use Rattle.segment.specs.declared.Pen.{Pen}
 use Rattle.segment.proofs.Pen as P
-use Rattle.segment.proofs.Parts.{pens, IsPen, pen-tells, pen-typed, typed-outcome, owned-pen}
-use Rattle.segment.proofs.Calls.{Reset, calls-reset}
-use Rattle.segment.proofs.Pen.reset.Symbol as callee-code
-use Rattle.segment.proofs.Pen.reset.Met as callee-met
+use Rattle.lent_pen.proofs.Parts.{pens, IsPen, pen-tells, pen-typed, typed-outcome, owned-pen}
+use Rattle.lent_pen.proofs.Calls.{Reset, calls-reset}
+use Rattle.lent_pen.proofs.reset.Symbol as callee-code
+use Rattle.lent_pen.proofs.reset.Met as callee-met
 use Rattle.replay_segment.proofs.Held.{drawn, made, typed-drawn, owned-drawn}
 use Rattle.replay_segment.proofs.lent_reset.Key.{name}
 use Rattle.replay_segment.proofs.lent_reset as f
@@ -85,4 +85,4 @@ lent-reset-spec 𝓤 H 𝓜 𝓖 𝓡 =
     (tables 𝓤 H 𝓜 𝓡 code.env .C) (tables 𝓤 H 𝓜 𝓡 code.env .Λ) name code.function (code.unfolded 𝓤 H 𝓜 𝓡)
     (meets 𝓤 H (𝓖 .A) (𝓜 .mem) (𝓡 .run) (givenOf 𝓤 H 𝓜 𝓖) (tablesOf 𝓤 H 𝓜 (tables 𝓤 H 𝓜 𝓡 code.env))
     (cited 𝓤 H (Reset 𝓤 H (𝓖 .A) (𝓜 .mem) (𝓡 .run)) 𝓜 𝓡 code.env callee-code.name callee-code.routine
-    code.calls-segment·Pen·reset (callee-met.met 𝓤 H 𝓜 𝓖 𝓡)))
+    code.calls-lent-pen·reset (callee-met.met 𝓤 H 𝓜 𝓖 𝓡)))

@@ -1,20 +1,20 @@
 -- `lent_set_pc` meets its contract, which asks and says nothing, by a walk through its code: the pen is copied into a local and lent to
--- `Pen::set_pc`, of which only its contract is known; the pen that it left and its answer are the `Drawn`. Assumes nothing.
-use Rattle.segment.proofs.Walk.{refl, ℕ, _<_, _^_, [], _∷_, List, URA, w64, Val, vint, SProp, ent, emp, via, fst∗, ftrue, Memory, Routine}
-use Rattle.segment.proofs.Walk.{Heap, Calls, Loops, WpFn, Tables, Atoms, Fun, givenOf, tables, tablesOf, FmC, fmOf, WpFn-mono, Given, ‵}
-use Rattle.segment.proofs.Walk.{⋆, _$_, _∵_, !, qed, by, move, keep, join, fjoin, suffices, frame, done, look, init, forget, stop, from}
-use Rattle.segment.proofs.Walk.{load, addr, of-opd, and-then, no-more, assigns, land, returns, enter, alloc1, alloc0, params1, pass1}
-use Rattle.segment.proofs.Walk.{pass0, free1, free0, agg, owns, Is, uint-vals, uint-tells, uint-makes, usize, yes, only, owned, nothing}
-use Rattle.segment.proofs.Walk.{onEntry, Meets, tripleOf, Triple, entered, cited, Stays, stay-none, walkOf, goes-none, Walks, ends-at}
-use Rattle.segment.proofs.Walk.{walked, walk-meets}
+-- `lent_pen::set_pc`, of which only its contract is known; the pen that it left and its answer are the `Drawn`. Assumes nothing.
+use Rattle.lent_pen.proofs.Walk.{refl, ℕ, _<_, _^_, [], _∷_, List, URA, w64, Val, vint, SProp, ent, emp, via, fst∗, ftrue, Memory, Routine}
+use Rattle.lent_pen.proofs.Walk.{Heap, Calls, Loops, WpFn, Tables, Atoms, Fun, givenOf, tables, tablesOf, FmC, fmOf, WpFn-mono, Given, ‵}
+use Rattle.lent_pen.proofs.Walk.{⋆, _$_, _∵_, !, qed, by, move, keep, join, fjoin, suffices, frame, done, look, init, forget, stop, from}
+use Rattle.lent_pen.proofs.Walk.{load, addr, of-opd, and-then, no-more, assigns, land, returns, enter, alloc1, alloc0, params1, pass1}
+use Rattle.lent_pen.proofs.Walk.{pass0, free1, free0, agg, owns, Is, uint-vals, uint-tells, uint-makes, usize, yes, only, owned, nothing}
+use Rattle.lent_pen.proofs.Walk.{onEntry, Meets, tripleOf, Triple, entered, cited, Stays, stay-none, walkOf, goes-none, Walks, ends-at}
+use Rattle.lent_pen.proofs.Walk.{walked, walk-meets}
 use Rattle.refusals.specs.declared.Outcome.{Outcome}
 use Rattle.refusals.proofs.Outcome as O
 use Rattle.segment.specs.declared.Pen.{Pen}
 use Rattle.segment.proofs.Pen as P
-use Rattle.segment.proofs.Parts.{pens, IsPen, pen-tells, pen-typed, typed-outcome, owned-pen}
-use Rattle.segment.proofs.Calls.{SetPc, calls-set}
-use Rattle.segment.proofs.Pen.set_pc.Symbol as callee-code
-use Rattle.segment.proofs.Pen.set_pc.Met as callee-met
+use Rattle.lent_pen.proofs.Parts.{pens, IsPen, pen-tells, pen-typed, typed-outcome, owned-pen}
+use Rattle.lent_pen.proofs.Calls.{SetPc, calls-set}
+use Rattle.lent_pen.proofs.set_pc.Symbol as callee-code
+use Rattle.lent_pen.proofs.set_pc.Met as callee-met
 use Rattle.replay_segment.proofs.Held.{drawn, made, typed-drawn, owned-drawn}
 use Rattle.replay_segment.proofs.lent_set_pc.Key.{name}
 use Rattle.replay_segment.proofs.lent_set_pc as f
@@ -97,4 +97,4 @@ lent-set-pc-spec 𝓤 H 𝓜 𝓖 𝓡 =
     (tables 𝓤 H 𝓜 𝓡 code.env .C) (tables 𝓤 H 𝓜 𝓡 code.env .Λ) name code.function (code.unfolded 𝓤 H 𝓜 𝓡)
     (meets 𝓤 H (𝓖 .A) (𝓜 .mem) (𝓡 .run) (givenOf 𝓤 H 𝓜 𝓖) (tablesOf 𝓤 H 𝓜 (tables 𝓤 H 𝓜 𝓡 code.env))
     (cited 𝓤 H (SetPc 𝓤 H (𝓖 .A) (𝓜 .mem) (𝓡 .run)) 𝓜 𝓡 code.env callee-code.name callee-code.routine
-    code.calls-segment·Pen·set-pc (callee-met.met 𝓤 H 𝓜 𝓖 𝓡)))
+    code.calls-lent-pen·set-pc (callee-met.met 𝓤 H 𝓜 𝓖 𝓡)))

@@ -1,0 +1,4 @@
+-- The definitions that the contracts of this crate cite.
+pub mod Inverse
+pub mod Decode
+pub mod Says
