@@ -14,7 +14,7 @@ use Rattle.walk.specs.Values.{Values, numbered}
 use Rattle.passes.specs.Passes.{settled}
 use Rattle.reads.specs.Reads.{readsOn}
 use Rattle.builder.specs.Build.{Build, triedWith, builtBy, built}
-use Rattle.listing.specs.Text.{lastLine}
+use Rattle.lines.specs.Text.{lastLine}
 use Rattle.listing.specs.Listing.{lines, listedWith, listedBy, listed}
 use Rattle.listing.specs.Theorems.{AsBuilt}
 

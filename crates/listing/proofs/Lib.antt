@@ -1,8 +1,7 @@
--- How text is put into a lent one, how long numbers are, what mnemonics are called; the walk that puts a line for each record; what the
--- crates below give each other; that a listing says what the build says; and that the call allows one answer.
-pub mod Puts
-pub mod Numerals
-pub mod Mnemonics
+-- The line of a record; how long a listing is; the walk that puts a line for each record; what the crates below give each other; that a
+-- listing says what the build says; and that the call allows one answer.
+pub mod Shown
+pub mod Lengths
 pub mod Calls
 pub mod Records
 pub mod Walking

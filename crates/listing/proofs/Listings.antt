@@ -3,7 +3,7 @@
 use mathlib.Core.List.{List, [], _∷_, _++_}
 use mathlib.Core.Option.{Option}
 use mathlib.Core.Path.{_≡_, refl, sym, ap, _∙_}
-use Prim.Native.Nat.{ℕ, suc, _*_, _≤_, _<_}
+use Prim.Native.Nat.{ℕ, suc, _≤_, _<_}
 use native.Mathlib.Omega.{arith}
 use lib.IntN.{ℤ}
 use lib.ListN.{length}
@@ -11,6 +11,9 @@ use Rattle.refusals.specs.Answer.{pick}
 use Rattle.refusals.specs.AnswerAt.{AnswerAt, Fine, Fault, part, mapped, andThen}
 use Rattle.refusals.proofs.Never.{never}
 use Rattle.refusals.proofs.Answers.{fine-value, fault-is}
+use Rattle.page.specs.Page.{laid}
+use Rattle.page.proofs.Laying.{laid-then}
+use Rattle.lines.specs.Text.{lastLine, refusedLine}
 use Rattle.segment.specs.Segment.{size}
 use Rattle.symbols.specs.declared.SymbolTable.{SymbolTable}
 use Rattle.form.specs.Form.{maxTape}
@@ -38,11 +41,9 @@ use Rattle.reads.specs.Reads.{readsOn}
 use Rattle.reads.proofs.Names.{declare-is}
 use Rattle.reads.proofs.Reading.{all-alike}
 use Rattle.builder.specs.Build.{builder, finished}
-use Rattle.listing.specs.Text.{lastLine, refusedLine}
 use Rattle.listing.specs.Listing.{lineOf, lines, listedWith, listedBy, listed}
 use Rattle.listing.specs.Call.{said}
-use Rattle.listing.specs.Steps.{Puts, AllPass, listedIn}
-use Rattle.listing.proofs.Puts.{same-put, puts-then}
+use Rattle.listing.specs.Steps.{AllPass, listedIn}
 
 abbrev Reads : Type 0
 Reads = (ℕ → Option ℤ) → ℤ → ℕ → Value
@@ -143,23 +144,23 @@ module _ (tape nodes : List ℕ) (numbers : Numbers) (initial : ℕ) where
 
     -- m: the text before; what is put is the listing after n passes
     module _ (n : ℕ) (m : List ℕ) where
-      abbrev Filled : List ℕ → ℕ → Type 0
-      Filled text′ end = Puts m 0 (said (listedIn reads (statements tape) (origin initial) n numbers)) text′ end
+      abbrev Filled : ℕ × List ℕ → Type 0
+      Filled z = z ≡ laid m 0 (said (listedIn reads (statements tape) (origin initial) n numbers))
 
-      pub filled-refused : {i at : ℕ} → w ≡ written.Refused i at → {text′ : List ℕ} {end : ℕ} → Puts m 0 (refusedLine i at) text′ end
-          → Filled text′ end
+      pub filled-refused : {i at : ℕ} → w ≡ written.Refused i at → {z : ℕ × List ℕ} → z ≡ laid m 0 (refusedLine i at) → Filled z
       unfolding listedIn
-      filled-refused is put = same-put m 0 _ _ (sym (ap (λ (a : AnswerAt Trying). said (mapped (text n) a)) (range-refused is all tried))) put
+      filled-refused is put =
+          put ∙ ap (laid m 0) (sym (ap (λ (a : AnswerAt Trying). said (mapped (text n) a)) (range-refused is all tried)))
 
       -- first the lines, then the last one
-      pub filled-lines : {from to : ℕ} → w ≡ written.Range from to → length m ≡ 1310740 → {text₁ text₂ : List ℕ} {mid end : ℕ}
-          → Puts m 0 shown text₁ mid × (mid ≤ 20 * length tape) → Puts text₁ mid (lastLine from to n) text₂ end → Filled text₂ end
+      pub filled-lines : {from to : ℕ} → w ≡ written.Range from to → {text′ : List ℕ} {end : ℕ} → (end, text′) ≡ laid m 0 shown
+          → {z : ℕ × List ℕ} → z ≡ laid text′ end (lastLine from to n) → Filled z
       unfolding listedIn
-      filled-lines {from} {to} is long (put, most) last =
+      filled-lines {from} {to} is put last =
           let (u, fine, both) = range-fine is all tried in
-          same-put m 0 _ _
+          laid-then m 0 shown put (lastLine from to n) last
+          ∙ ap (laid m 0)
           (ap (λ (p : ℕ × ℕ). shown ++ lastLine (p .0) (p .1) n) both ∙ sym (ap (λ (a : AnswerAt Trying). said (mapped (text n) a)) fine))
-          (puts-then m 0 shown _ _ (omega (arith, most, fits, long)) put (lastLine from to n) _ _ last)
 
 -- ---- behind the names
 

@@ -1,18 +1,19 @@
--- The walk over a tape whose statements have passed: what is put, and then the lines from here, are the lines from the start.
+-- The walk over a tape whose statements have passed: what is laid so far, then the lines from here, are the lines from the start.
 -- Assumes nothing.
 use mathlib.Core.Bool.{Bool, true, false}
-use mathlib.Core.List.{List, [], _++_, append-assoc, append-nil}
+use mathlib.Core.List.{List, [], _++_}
 use mathlib.Core.Option.{Option}
 use mathlib.Core.Path.{_≡_, refl, sym, ap, _∙_, subst}
-use Prim.Native.Nat.{ℕ, _+_, _*_, _≤_, _<_}
+use Prim.Native.Nat.{ℕ, _+_, _≤_, _<_}
 use native.Mathlib.Omega.{arith}
 use lib.IntN.{ℤ, pos}
 use lib.ListN.{length, getD}
 use Rattle.refusals.specs.AnswerAt.{Fine, andThen}
 use Rattle.refusals.proofs.Answers.{fine-then}
-use Rattle.refusals.proofs.Memory.{over-nothing}
 use Rattle.opcodes.specs.declared.Code.{Code}
 use Rattle.opcodes.specs.Encode.{code}
+use Rattle.page.specs.Page.{laid}
+use Rattle.page.proofs.Laying.{goes-on, all-laid}
 use Rattle.tape.specs.Record.{bytesAt}
 use Rattle.tape.proofs.Records.{record-end}
 use Rattle.form.specs.Statements.{whatOf, isLast, statements, statementsAt}
@@ -26,8 +27,7 @@ use Rattle.tries.proofs.Walking.{over-low, over-one}
 use Rattle.tries.proofs.Advancing.{bytes-code}
 use Rattle.builder.specs.Build.{builder}
 use Rattle.listing.specs.Listing.{lineOf, lines}
-use Rattle.listing.specs.Steps.{Puts, AllPass}
-use Rattle.listing.proofs.Puts.{puts-then, same-put}
+use Rattle.listing.specs.Steps.{AllPass}
 use Rattle.listing.proofs.Records.{bytesHere, Behind, behind}
 
 -- ---- what each turn keeps
@@ -42,27 +42,20 @@ module _ (tape nodes : List ℕ) (numbers : ℕ → Option ℤ) (initial : ℕ) 
   pub record Going (text₀ text : List ℕ) (place end at : ℕ) : Type 0 where
     pub near : at ≤ length tape
     pub low : place ≤ 65536
-    pub room : end ≤ 20 * at
     pub as-long : length text ≡ length text₀
-    -- what is put
-    pub done : List ℕ
-    pub puts : Puts text₀ 0 done text end
     -- the tries are at this place, and come through
     pub names : ℕ
     pub page : Page
     pub last : Trying
     pub passes : tries reads builder numbers (trying (walk place names) page) (statementsAt tape at) ≡ Fine last
-    pub whole : all ≡ done ++ lines reads numbers (walk place names) (statementsAt tape at)
+    pub whole : laid text end (lines reads numbers (walk place names) (statementsAt tape at)) ≡ laid text₀ 0 all
 
   pub going-start : initial ≤ 65536 → AllPass reads numbers (statements tape) (origin initial) → (text : List ℕ)
       → Going text text initial 0 0
   going-start h (u, fine) text = record {
     near = omega arith;
     low = h;
-    room = omega arith;
     as-long = refl;
-    done = [];
-    puts = (over-nothing text 0, refl);
     names = 0;
     page = start (origin initial) .page;
     last = u;
@@ -72,22 +65,15 @@ module _ (tape nodes : List ℕ) (numbers : ℕ → Option ℤ) (initial : ℕ) 
 
   module _ {text₀ text : List ℕ} {place end at : ℕ} (g : Going text₀ text place end at) where
     -- where no statement is left, all is put
-    ended : statementsAt tape at ≡ [] → Puts text₀ 0 all text end × (end ≤ 20 * length tape)
-    ended e =
-        let same : all ≡ g .done =
-        g .whole ∙ ap (λ xs. g .done ++ lines reads numbers (walk place (g .names)) xs) e ∙ append-nil (g .done) in
-        (same-put text₀ 0 _ _ (sym same) (g .puts), omega (arith, g .room, g .near))
+    ended : statementsAt tape at ≡ [] → (end, text) ≡ laid text₀ 0 all
+    ended e = all-laid text end _ _ (g .whole) (ap (lines reads numbers (walk place (g .names))) e)
 
-    pub going-past : length tape ≤ at → Puts text₀ 0 all text end × (end ≤ 20 * length tape)
+    pub going-past : length tape ≤ at → (end, text) ≡ laid text₀ 0 all
     going-past h = ended (statements-past tape at h)
-
-    -- the text has room for a line for each byte of the tape
-    pub going-room : at < length tape → length tape ≤ 65536 → length text₀ ≡ 1310740 → end + 20 ≤ length text
-    going-room here short long = omega (arith, g .room, g .as-long)
 
     -- r: the record there
     module _ {r : List ℕ} (is : r ≡ bytesAt tape at) {l : Bool} (l-is : l ≡ isLast r) where
-      pub going-last : l ≡ true → Puts text₀ 0 all text end × (end ≤ 20 * length tape)
+      pub going-last : l ≡ true → (end, text) ≡ laid text₀ 0 all
       going-last t = ended (statements-last tape at (ap isLast (sym is) ∙ sym l-is ∙ t))
 
       pub inside : at + length r ≤ length tape
@@ -122,11 +108,10 @@ module _ (tape nodes : List ℕ) (numbers : ℕ → Option ℤ) (initial : ℕ) 
           pub going-short : k .len ≤ 3
           going-short = omega (arith, ap (λ (x : Code). x .len) k-is, goes .short)
 
-          pub going-on : (text′ : List ℕ) {place′ end′ : ℕ}
-              → Puts text end (lineOf place (whatOf r) (bytesIn k)) text′ end′ × (end′ ≤ end + 20)
-              → length text′ ≡ length text → place′ ≡ placeBehind (getD r 0 0) v place (k .len) → end + 20 ≤ length text
+          pub going-on : (text′ : List ℕ) {place′ end′ : ℕ} → (end′, text′) ≡ laid text end (lineOf place (whatOf r) (bytesIn k))
+              → length text′ ≡ length text → place′ ≡ placeBehind (getD r 0 0) v place (k .len)
               → Going text₀ text′ place′ end′ (at + length r)
-          going-on text′ {place′} {end′} (put, most) same moved room =
+          going-on text′ {place′} {end′} put same moved =
               let u = next .0 in
               let rest = statementsAt tape (at + length r) in
               let line = lineOf place (whatOf r) (bytesHere place at r v) in
@@ -137,16 +122,13 @@ module _ (tape nodes : List ℕ) (numbers : ℕ → Option ℤ) (initial : ℕ) 
               record {
                 near = inside;
                 low = subst (λ (n : ℕ). n ≤ 65536) (sym there) (over-low reads builder numbers now at r u (g .low) (next .1) .0);
-                room = omega (arith, g .room, most, some-bytes);
                 as-long = same ∙ g .as-long;
-                done = g .done ++ line;
-                puts = puts-then text₀ 0 (g .done) _ _ (omega (arith, g .as-long, room)) (g .puts) line _ _ (same-put text end _ _ is-line put);
                 names = u .walk .names;
                 page = u .page;
                 last = g .last;
                 passes = ap (λ (n : ℕ). tries reads builder numbers (trying (walk n (u .walk .names)) (u .page)) rest) there ∙ next .2;
                 whole =
-                    g .whole ∙ ap (λ (x : List ℕ). g .done ++ x) (goes .shown)
-                    ∙ sym (append-assoc (g .done) line (lines reads numbers (u .walk) rest))
-                    ∙ ap (λ (n : ℕ). g .done ++ line ++ lines reads numbers (walk n (u .walk .names)) rest) (sym there);
+                    ap (λ (n : ℕ). laid text′ end′ (lines reads numbers (walk n (u .walk .names)) rest)) there
+                    ∙ goes-on text end _ _ (g .whole) line (lines reads numbers (u .walk) rest) (goes .shown) text′ end′
+                    (put ∙ ap (laid text end) is-line);
               }

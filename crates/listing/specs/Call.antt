@@ -13,7 +13,7 @@ use Rattle.form.specs.Form.{maxTape}
 use Rattle.walk.specs.Walk.{origin}
 use Rattle.listing.specs.declared.Listed as L
 use Rattle.listing.specs.declared.Listed.the-variants as cases
-use Rattle.listing.specs.Text.{refusedLine}
+use Rattle.lines.specs.Text.{refusedLine}
 use Rattle.listing.specs.Listing.{listed}
 
 -- ---- the text

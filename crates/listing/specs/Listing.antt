@@ -1,11 +1,12 @@
 -- The listing of a tape: a line for each record that writes, in tape order, and a last one; or the refusal of its build. Assumes
 -- nothing: these are definitions.
 use Prim.Native.Nat.{ℕ}
+use Prim.Native.String.{String}
 use mathlib.Core.List.{List, [], _∷_, _++_}
 use mathlib.Core.Option.{Option}
 use lib.IntN.{ℤ}
 use Rattle.refusals.specs.AnswerAt.{AnswerAt, part, mapped, andThen}
-use Rattle.form.specs.Statements.{What, Statement, statements}
+use Rattle.form.specs.Statements.{What, Instruction, Open, Close, Label, Constant, SetPlace, Byte, Word, Screen, Statement, statements}
 use Rattle.evaluator.specs.Expression.{Value}
 use Rattle.names.specs.Names.{namesOf}
 use Rattle.walk.specs.declared.Walk.{Walk}
@@ -16,10 +17,22 @@ use Rattle.tries.specs.Try.{plain}
 use Rattle.tries.specs.Tries.{tryAt}
 use Rattle.reads.specs.Reads.{readsOn}
 use Rattle.builder.specs.Build.{triedWith}
-use Rattle.listing.specs.Text.{line, lastLine}
-use Rattle.listing.specs.Mnemonics.{mnemonicOf}
+use Rattle.mnemonics.specs.Mnemonics.{dashes, nameOf}
+use Rattle.lines.specs.Text.{line, lastLine}
 
 -- ---- a line for each record that writes
+
+-- what a statement is called: "mnemonic as three capital letters (--- for data)"
+abbrev pub mnemonicOf : What → String
+mnemonicOf (Instruction mnemonic mode suffix) = nameOf mnemonic
+mnemonicOf Byte = dashes
+mnemonicOf Word = dashes
+mnemonicOf (Screen petscii) = dashes
+mnemonicOf (Open id) = dashes
+mnemonicOf Close = dashes
+mnemonicOf (Label id) = dashes
+mnemonicOf (Constant id) = dashes
+mnemonicOf SetPlace = dashes
 
 -- a statement that writes these bytes at a place: none, no line
 abbrev pub lineOf : ℕ → What → List ℕ → List ℕ

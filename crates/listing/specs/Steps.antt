@@ -1,12 +1,10 @@
 -- What private functions promise each other on the way. No public promise cites these. Assumes nothing: these are definitions.
-use Prim.Native.Nat.{ℕ, _+_}
+use Prim.Native.Nat.{ℕ}
 use mathlib.Core.List.{List, _++_}
 use mathlib.Core.Option.{Option}
 use mathlib.Core.Path.{_≡_}
 use lib.IntN.{ℤ}
-use lib.ListN.{length}
 use Rattle.refusals.specs.AnswerAt.{AnswerAt, Fine, mapped}
-use Rattle.refusals.specs.Memory.{over}
 use Rattle.form.specs.Statements.{Statement}
 use Rattle.evaluator.specs.Expression.{Value}
 use Rattle.walk.specs.declared.Numbers.{Numbers}
@@ -14,12 +12,8 @@ use Rattle.walk.specs.Walk.{Origin, begin}
 use Rattle.walk.specs.Numbers.{numbersIn}
 use Rattle.tries.specs.Tries.{Trying, start, tries}
 use Rattle.builder.specs.Build.{builder}
-use Rattle.listing.specs.Text.{lastLine}
+use Rattle.lines.specs.Text.{lastLine}
 use Rattle.listing.specs.Listing.{lines}
-
--- a text with these bytes at an offset; what is answered is the offset behind them
-abbrev pub Puts : List ℕ → ℕ → List ℕ → List ℕ → ℕ → Type 0
-Puts text at bytes text′ behind = (text′ ≡ over text at bytes) × (behind ≡ at + length bytes)
 
 module _ (reads : (ℕ → Option ℤ) → ℤ → ℕ → Value) where
   -- every statement passes its try

@@ -1,9 +1,8 @@
 // The listing: a tape is built, and for each record that writes a line of its place, its bytes and its mnemonic goes into a lent text,
 // then a line of start, end and passes. A refused tape gives the refused line alone.
-mod text;
-
 use evaluator::Value;
 use form::LONGEST;
+use mnemonics::DATA;
 use opcodes::Code;
 use passes::Passes;
 use refusals::ARGUMENT;
@@ -11,6 +10,7 @@ use refusals::MOVED;
 use refusals::OutcomeAt;
 use symbols::Data;
 use symbols::NODES;
+use tape::INSTRUCTION;
 use tape::SET_PLACE;
 use tries::Compares;
 use tries::Tried;
@@ -19,7 +19,7 @@ use walk::Numbers;
 ghost use mathlib.Core.List.{[]};
 ghost use mathlib.Core.Option.{none};
 ghost use mathlib.Core.Path.{_≡_};
-ghost use Prim.Native.Nat.{_*_, _≤_, _<_};
+ghost use Prim.Native.Nat.{_≤_, _<_};
 ghost use lib.IntN.{pos};
 ghost use lib.ListN.{length, getD};
 ghost use Rattle.refusals.specs.Answer.{pick};
@@ -27,6 +27,8 @@ ghost use Rattle.refusals.specs.AnswerAt.{part};
 ghost use Rattle.segment.specs.Segment.{size};
 ghost use Rattle.symbols.specs.Edges.{maxNodes};
 ghost use Rattle.opcodes.specs.Encode.{code};
+ghost use Rattle.page.specs.Page.{laid};
+ghost use Rattle.mnemonics.specs.Mnemonics.{nameOf};
 ghost use Rattle.form.specs.Form.{maxTape};
 ghost use Rattle.form.specs.Statements.{whatOf, isInner, statements};
 ghost use Rattle.evaluator.specs.Says.{saysValue};
@@ -34,10 +36,10 @@ ghost use Rattle.walk.specs.Walk.{origin, begin};
 ghost use Rattle.walk.specs.Values.{declarations};
 ghost use Rattle.walk.specs.Numbers.{numbersIn, readsNoted};
 ghost use Rattle.tries.specs.Try.{plain, tryOf};
-ghost use Rattle.tries.specs.Steps.{placeBehind};
-ghost use Rattle.listing.specs.Listing.{lines, listedBy, listed};
-ghost use Rattle.listing.specs.Call.{said, listing, textPlaces, listOf, saysListed};
-ghost use Rattle.listing.specs.Steps.{Puts, AllPass, listedIn};
+ghost use Rattle.tries.specs.Steps.{bytesIn, placeBehind};
+ghost use Rattle.listing.specs.Listing.{mnemonicOf, lineOf, lines, listedBy, listed};
+ghost use Rattle.listing.specs.Call.{said, listing, listOf, saysListed};
+ghost use Rattle.listing.specs.Steps.{AllPass, listedIn};
 
 // How long the text is that is lent: twenty bytes for each byte of a tape, and twenty for the last line.
 pub const TEXT: usize = 1310740;
@@ -61,46 +63,43 @@ pub fn list(tape: &[u8], initial: usize, text: &mut [u8]) -> Listed
     Listed::Text(fill(tape, initial, text))
 }
 
-// Fills a text that is long enough; how much of it.
+// Fills a text; how much of it.
 fn fill(tape: &[u8], initial: usize, text: &mut [u8]) -> usize
-    requires { ⌜ length (now text) ≡ textPlaces ⌝ }
-    ensures { λ r. ⌜ Puts (now (text .entry)) 0 (listing (now (tape .entry)) initial) (now (text .exit)) r ⌝ }
+    ensures { λ r. ⌜ (r, now (text .exit)) ≡ laid (now (text .entry)) 0 (listing (now (tape .entry)) initial) ⌝ }
 {
     if LONGEST < tape.len() {
-        return text::put_refused(text, ARGUMENT, 0);
+        return lines::put_refused(text, 0, ARGUMENT, 0);
     }
     if SIZE < initial {
-        return text::put_refused(text, ARGUMENT, 0);
+        return lines::put_refused(text, 0, ARGUMENT, 0);
     }
     fill_names(tape, initial, text)
 }
 
 // Form and names.
 fn fill_names(tape: &[u8], initial: usize, text: &mut [u8]) -> usize
-    requires { ⌜ (length (now tape) ≤ maxTape) × (initial ≤ size) × (length (now text) ≡ textPlaces) ⌝ }
-    ensures { λ r. ⌜ Puts (now (text .entry)) 0 (said (listed (now (tape .entry)) (origin initial))) (now (text .exit)) r ⌝ }
+    requires { ⌜ (length (now tape) ≤ maxTape) × (initial ≤ size) ⌝ }
+    ensures { λ r. ⌜ (r, now (text .exit)) ≡ laid (now (text .entry)) 0 (said (listed (now (tape .entry)) (origin initial))) ⌝ }
 {
     let mut nodes = [0u16; SIZE];
     let declared = names::declare(tape, &mut nodes);
     let answer = declared.answer;
     match answer {
-        OutcomeAt::Refused { number, at } => text::put_refused(text, number, at),
+        OutcomeAt::Refused { number, at } => lines::put_refused(text, 0, number, at),
         OutcomeAt::Done => fill_settled(tape, &nodes, initial, text),
     }
 }
 
 // The names being resolved: the passes.
 fn fill_settled<'a>(tape: &'a [u8], nodes: &'a [u16], initial: usize, text: &mut [u8]) -> usize
-    requires { ⌜ (length (now tape) ≤ maxTape) × (initial ≤ size) × (length (now text) ≡ textPlaces)
-        × (declarations (statements (now tape)) < maxNodes) ⌝ }
-    ensures { λ r. ⌜ Puts (now (text .entry)) 0
-        (said (listedBy (readsNoted (now (tape .entry)) (now (nodes .entry))) (statements (now (tape .entry))) (origin initial)))
-        (now (text .exit)) r ⌝ }
+    requires { ⌜ (length (now tape) ≤ maxTape) × (initial ≤ size) × (declarations (statements (now tape)) < maxNodes) ⌝ }
+    ensures { λ r. ⌜ (r, now (text .exit)) ≡ laid (now (text .entry)) 0
+        (said (listedBy (readsNoted (now (tape .entry)) (now (nodes .entry))) (statements (now (tape .entry))) (origin initial))) ⌝ }
 {
     let settled = passes::settle(tape, nodes, initial);
     let answer = settled.answer;
     match answer {
-        Passes::Refused { number, at } => text::put_refused(text, number, at),
+        Passes::Refused { number, at } => lines::put_refused(text, 0, number, at),
         Passes::After(n) => {
             let numbers = settled.numbers;
             fill_tried(tape, nodes, numbers, n, initial, text)
@@ -117,10 +116,10 @@ fn fill_tried<'a>(
     initial: usize,
     text: &mut [u8],
 ) -> usize
-    requires { ⌜ (length (now tape) ≤ maxTape) × (initial ≤ size) × (length (now text) ≡ textPlaces) ⌝ }
-    ensures { λ r. ⌜ Puts (now (text .entry)) 0
+    requires { ⌜ (length (now tape) ≤ maxTape) × (initial ≤ size) ⌝ }
+    ensures { λ r. ⌜ (r, now (text .exit)) ≡ laid (now (text .entry)) 0
         (said (listedIn (readsNoted (now (tape .entry)) (now (nodes .entry))) (statements (now (tape .entry))) (origin initial) passes numbers))
-        (now (text .exit)) r ⌝ }
+        ⌝ }
 {
     let compares = Compares {
         label: MOVED,
@@ -128,10 +127,10 @@ fn fill_tried<'a>(
     };
     let mut image = [0u8; SIZE];
     match tries::write(tape, nodes, numbers, initial, compares, &mut image) {
-        Written::Refused { number, at } => text::put_refused(text, number, at),
+        Written::Refused { number, at } => lines::put_refused(text, 0, number, at),
         Written::Range { start, end } => {
             let at = put_lines(tape, nodes, &numbers.known, &numbers.number, initial, text);
-            text::put_last(text, at, start, end, passes)
+            lines::put_last(text, at, start, end, passes)
         }
     }
 }
@@ -145,12 +144,11 @@ fn put_lines<'a>(
     initial: usize,
     text: &mut [u8],
 ) -> usize
-    requires { ⌜ (length (now tape) ≤ maxTape) × (initial ≤ size) × (length (now text) ≡ textPlaces)
+    requires { ⌜ (length (now tape) ≤ maxTape) × (initial ≤ size)
         × AllPass (readsNoted (now tape) (now nodes)) (numbersIn (now known) (now number)) (statements (now tape)) (origin initial) ⌝ }
-    ensures { λ r. ⌜ Puts (now (text .entry)) 0
+    ensures { λ r. ⌜ (r, now (text .exit)) ≡ laid (now (text .entry)) 0
         (lines (readsNoted (now (tape .entry)) (now (nodes .entry))) (numbersIn (now (known .entry)) (now (number .entry)))
-        (begin (origin initial)) (statements (now (tape .entry)))) (now (text .exit)) r
-        × (r ≤ 20 * length (now (tape .entry))) ⌝ }
+        (begin (origin initial)) (statements (now (tape .entry)))) ⌝ }
 {
     let mut place = initial;
     let mut end: usize = 0;
@@ -163,7 +161,7 @@ fn put_lines<'a>(
         let next = at + rec.len();
         let value = walk::value_of(tape, nodes, known, number, place as i64, rec, next);
         let bytes = bytes_of(rec, at, place, value);
-        end = text::put_record(text, end, place, rec, bytes);
+        end = put_record(text, end, place, rec, bytes);
         place = place_behind(rec, value, place, bytes.len as usize);
         at = next;
     }
@@ -210,4 +208,32 @@ fn place_behind(rec: &[u8], value: Value, place: usize, len: usize) -> usize
         return walk::moved_to(walk::number_of(value), place);
     }
     place + len
+}
+
+// The line of a record that writes these bytes at a place; nothing where there are none.
+fn put_record(text: &mut [u8], at: usize, place: usize, rec: &[u8], bytes: Code) -> usize
+    ensures { λ r. ⌜ (r, now (text .exit))
+        ≡ laid (now (text .entry)) at (lineOf place (whatOf (now (rec .entry))) (bytesIn bytes)) ⌝ }
+{
+    if bytes.len == 0 {
+        return at;
+    }
+    let all = [bytes.b0, bytes.b1, bytes.b2];
+    lines::put_line(
+        text,
+        at,
+        place,
+        page::cut(&all, bytes.len as usize),
+        mnemonic_of(rec),
+    )
+}
+
+// The number of a record's mnemonic; all but instructions are data.
+fn mnemonic_of(rec: &[u8]) -> u8
+    ensures { λ r. ⌜ nameOf r ≡ mnemonicOf (whatOf (now (rec .entry))) ⌝ }
+{
+    if little::u8_at(rec, 0) == INSTRUCTION {
+        return little::u8_at(rec, 1);
+    }
+    DATA
 }

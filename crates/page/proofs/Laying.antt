@@ -102,6 +102,10 @@ module _ (memory : List ℕ) (at : ℕ) (xs : List ℕ) where
       → z ≡ laid memory′ end ys → z ≡ laid memory at (xs ++ ys)
   laid-then first ys second = second ∙ ap (λ (z : ℕ × List ℕ). laid (z .1) (z .0) ys) first ∙ laid-both memory at ys xs
 
+  -- the same bytes, in other words
+  pub laid-same : {ys : List ℕ} → xs ≡ ys → {z : ℕ × List ℕ} → z ≡ laid memory at xs → z ≡ laid memory at ys
+  laid-same e put = put ∙ ap (laid memory at) e
+
   -- where there is room, all of them are
   pub all-fit : at + length xs ≤ length memory → laid memory at xs ≡ written memory at xs
   unfolding laid

@@ -31,7 +31,7 @@ put-lines-requires c κs =
     let args = given .args in
     let passed = all-pass (now (args .tape)) (now (args .nodes)) (args .t3) (args .initial) (given .pre .0) (given .pre .1)
     (length-replicate {A = ℕ} size 0) _ (written .write .ensures .0) (told .start .given .1) in
-    (given .pre .0, given .pre .1, given .pre .2, passed)
+    (given .pre .0, given .pre .1, passed)
 
 put-last-requires : tie.Need-put-last-requires
 put-last-requires c κs = search needs
@@ -63,7 +63,7 @@ returns-2 c =
     let args = given .args in
     filled-lines (now (args .tape)) (now (args .nodes)) (args .t3) (args .initial) (given .pre .0) (given .pre .1)
     (length-replicate {A = ℕ} size 0) _ (written .write .ensures .0) (args .passes) (now (args .text)) (told .start .given .1)
-    (given .pre .2) (lined .put-lines .ensures) (last .put-last .ensures)
+    (lined .put-lines .ensures) (last .put-last .ensures)
 
 pub fill-tried-spec : {M : Type 1} → statement M
 fill-tried-spec =

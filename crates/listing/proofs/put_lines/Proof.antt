@@ -1,12 +1,12 @@
 -- What each turn keeps, and the text at each way out; the measure is what is left of the tape. Assumes nothing.
-use Prim.Native.Nat.{_+_, _-_, _≤_}
+use Prim.Native.Nat.{_-_, _≤_}
 use native.Mathlib.Omega.{arith}
 use lib.ListN.{length}
 use mir.Syntax.{w64}
 use mir.Facts.{toZ-pos}
 use borrow.Author.Needs.{needs}
 use Rattle.walk.specs.Numbers.{numbersIn}
-use Rattle.listing.proofs.Walking.{Going, going-start, going-past, going-room, going-last, inside, some-bytes, going-short, going-on}
+use Rattle.listing.proofs.Walking.{Going, going-start, going-past, going-last, inside, some-bytes, going-short, going-on}
 use Rattle.listing.proofs.put_lines.Statement.{statement}
 use Rattle.listing.proofs.put_lines.Tie as tie
 
@@ -27,16 +27,10 @@ short c =
     going-short _ _ _ _ going (found .«record» .ensures) (asked .is-last .ensures) (tested .if1 .left) _
     (toZ-pos w64 (omega (arith, going .low))) (c .before .value-of .ensures) _ (c .bytes-of .ensures)
 
--- and room for their line
-room : (c : tie.In-loop Inv-loop μ-loop) → c .before .loop .end + 20 ≤ length (c .before .loop .text)
-room c =
-    let given = c .before .before .before .before .before in
-    going-room _ _ _ _ (c .before .loop .inv) (c .loop-test .taken) (given .pre .0) (given .pre .2)
-
 loop-holds : tie.Need-loop-holds Inv-loop μ-loop
 loop-holds c =
     let s = c .before .before .before in
-    going-start _ _ _ _ (s .pre .1) (s .pre .3) _
+    going-start _ _ _ _ (s .pre .1) (s .pre .2) _
 
 record-requires : tie.Need-record-requires Inv-loop μ-loop
 record-requires c κs = tt
@@ -70,9 +64,7 @@ bytes-of-requires : tie.Need-bytes-of-requires Inv-loop μ-loop
 bytes-of-requires c κs = c .before .before .before .before .before .loop .inv .low
 
 put-record-requires : tie.Need-put-record-requires Inv-loop μ-loop
-put-record-requires c κs =
-    let came = c .before in
-    (short came, room (came .before .before .before .before .before))
+put-record-requires c κs = tt
 
 cast-place-behind : tie.Need-cast-place-behind Inv-loop μ-loop
 cast-place-behind c = search needs
@@ -102,7 +94,7 @@ loop-again c =
     let going = found .before .before .loop .inv in
     going-on _ _ _ _ going (found .«record» .ensures) (asked .is-last .ensures) (tested .if1 .left) _
     (toZ-pos w64 (omega (arith, going .low))) (came .before .value-of .ensures) _ (came .bytes-of .ensures) _ (put .put-record .ensures)
-    (lent .text .given) (c .place-behind .ensures) (room (found .before))
+    (lent .text .given) (c .place-behind .ensures)
 
 same-length-2 : tie.Need-same-length-2 Inv-loop μ-loop
 same-length-2 c = c .before .loop .inv .as-long
