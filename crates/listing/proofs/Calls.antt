@@ -12,9 +12,10 @@ use Rattle.refusals.proofs.Pick.{at-true, at-false}
 use Rattle.page.specs.Page.{laid}
 use Rattle.page.proofs.Laying.{all-fit}
 use Rattle.lines.specs.Text.{refusedLine}
+use Rattle.record_lines.specs.Records.{said}
 use Rattle.walk.specs.Walk.{origin}
 use Rattle.listing.specs.Listing.{listed}
-use Rattle.listing.specs.Call.{said, listing, listOf}
+use Rattle.listing.specs.Call.{listing, listOf}
 use Rattle.listing.proofs.Lengths.{listing-short}
 
 -- ---- the arguments

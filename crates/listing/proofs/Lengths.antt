@@ -3,80 +3,33 @@ use mathlib.Core.Bool.{Bool, true, false, _&&_}
 use mathlib.Core.List.{List, [], _∷_, _++_}
 use mathlib.Core.Option.{Option}
 use mathlib.Core.Path.{_≡_, refl}
-use Prim.Native.Nat.{ℕ, zero, suc, _+_, _*_, _-_, _≤_}
+use Prim.Native.Nat.{ℕ, zero, suc, _+_, _-_, _≤_}
 use native.Mathlib.Omega.{arith}
 use lib.Dec.{leb}
 use lib.IntN.{ℤ}
 use lib.ListN.{length, length-append}
 use borrow.Author.Tests.{leb-true}
 use Rattle.refusals.specs.Answer.{pick}
-use Rattle.refusals.specs.AnswerAt.{AnswerAt, Fine, Fault, part, mapped, andThen}
+use Rattle.refusals.specs.AnswerAt.{AnswerAt, Fine, Fault, mapped, andThen}
 use Rattle.refusals.specs.Table.{argument}
-use Rattle.mnemonics.specs.Ascii.{ascii}
-use Rattle.mnemonics.proofs.Letters.{three-letters}
 use Rattle.lines.specs.Text.{lastLine}
-use Rattle.lines.proofs.Lengths.{line-length, last-length, refused-length}
+use Rattle.lines.proofs.Lengths.{last-length, refused-length}
 use Rattle.segment.specs.Segment.{size}
 use Rattle.symbols.specs.declared.SymbolTable.{SymbolTable}
-use Rattle.tape.specs.Record as Record
+use Rattle.tape.specs.Record.{bytesAt}
 use Rattle.form.specs.Form.{maxTape}
-use Rattle.form.specs.Statements.{What, Instruction, Open, Close, Label, Constant, SetPlace, Byte, Word, Screen, isLast, isInner}
-use Rattle.form.specs.Statements.{Statement, statementOf, statementsFrom, statementsAt, statements}
+use Rattle.form.specs.Statements.{isLast, isInner, Statement, statementOf, statementsFrom, statementsAt, statements}
 use Rattle.evaluator.specs.Expression.{Value}
 use Rattle.names.specs.Names.{namesOf}
-use Rattle.walk.specs.declared.Walk.{Walk}
-use Rattle.walk.specs.Walk.{Origin, origin, begin, here}
-use Rattle.walk.specs.Values.{Values, numbered, valueAt, stepAt}
+use Rattle.walk.specs.Walk.{Origin, origin, begin}
+use Rattle.walk.specs.Values.{Values, numbered}
 use Rattle.passes.specs.Passes.{settled}
-use Rattle.tries.specs.Try.{plain}
-use Rattle.tries.specs.Tries.{tryAt}
-use Rattle.tries.proofs.Lengths.{try-short}
 use Rattle.reads.specs.Reads.{readsOn}
 use Rattle.builder.specs.Build.{Build, triedWith}
-use Rattle.listing.specs.Listing.{mnemonicOf, lineOf, bytesAt, lines, listedWith, listedBy, listed}
-use Rattle.listing.specs.Call.{said, listing, textPlaces}
-
--- ---- a line
-
-three : (x : What) → length (ascii (mnemonicOf x)) ≡ 3
-three (Instruction mnemonic mode suffix) = three-letters mnemonic
-three Byte = refl
-three Word = refl
-three (Screen petscii) = refl
-three (Open id) = refl
-three Close = refl
-three (Label id) = refl
-three (Constant id) = refl
-three SetPlace = refl
-
-line-short : (place : ℕ) (x : What) (bs : List ℕ) → length bs ≤ 3 → length (lineOf place x bs) ≤ 20
-line-short place x [] h = omega arith
-line-short place x (b ∷ bs) h = omega (arith, line-length place (b ∷ bs) (mnemonicOf x), three x)
-
--- ---- a line for each statement
-
-module _ (reads : (ℕ → Option ℤ) → ℤ → ℕ → Value) (numbers : ℕ → Option ℤ) where
-  few-bytes : (w : Walk) (x : Statement) → length (bytesAt reads numbers w x) ≤ 3
-  unfolding tryAt
-  few-bytes w x =
-      go (tryAt reads plain numbers w x)
-      (try-short plain (numbers (suc (w .names))) (here w) (x .at) (x .says) (valueAt reads numbers w x))
-    where
-      go : (a : AnswerAt (List ℕ)) → ((bs : List ℕ) → a ≡ Fine bs → length bs ≤ 3) → length (part a) ≤ 3
-      go (Fine bs) h = h bs refl
-      go (Fault n i) h = omega arith
-
-  lines-short : (w : Walk) (xs : List Statement) → length (lines reads numbers w xs) ≤ 20 * length xs
-  lines-short w [] = omega arith
-  lines-short w (x ∷ xs) =
-      let one = lineOf (w .place) (x .says) (bytesAt reads numbers w x) in
-      let rest = lines reads numbers (stepAt reads numbers w x) xs in
-      omega (
-        arith,
-        length-append one rest,
-        line-short (w .place) (x .says) (bytesAt reads numbers w x) (few-bytes w x),
-        lines-short (stepAt reads numbers w x) xs,
-      )
+use Rattle.record_lines.specs.Records.{lines, said}
+use Rattle.record_lines.proofs.Lengths.{lines-short}
+use Rattle.listing.specs.Listing.{listedWith, listedBy, listed}
+use Rattle.listing.specs.Call.{listing, textPlaces}
 
 -- ---- a statement for each record, a record for each byte
 
@@ -84,7 +37,7 @@ records-few : (n : ℕ) (tape : List ℕ) (at : ℕ) → length (statementsFrom 
 unfolding statementsFrom
 records-few zero tape at = omega arith
 records-few (suc n) tape at =
-    let r = Record.bytesAt tape at in
+    let r = bytesAt tape at in
     go (isLast r) (isInner r) (statementOf at r) _ (records-few n tape (at + length r))
   where
     go : (a b : Bool) (x : Statement) (xs : List Statement) → length xs ≤ n → length (pick a [] (pick b xs (x ∷ xs))) ≤ suc n

@@ -1,5 +1,4 @@
 -- The definitions that the contracts of this crate cite.
 pub mod Listing
 pub mod Call
-pub mod Steps
 pub mod Theorems

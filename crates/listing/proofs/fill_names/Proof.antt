@@ -8,25 +8,25 @@ use Rattle.page.proofs.Laying.{laid-same}
 use Rattle.form.specs.Form.{maxTape}
 use Rattle.walk.specs.Walk.{origin}
 use Rattle.reads.proofs.Names.{names-refused, names-done, declare-is, few-names}
-use Rattle.listing.specs.Call.{said}
+use Rattle.record_lines.specs.Records.{said}
 use Rattle.listing.proofs.Listings.{listed-fault, listed-noted}
 use Rattle.listing.proofs.fill_names.Statement.{statement}
 use Rattle.listing.proofs.fill_names.Tie as tie
 
 slice-aggregate-declare : tie.Need-slice-aggregate-declare
-slice-aggregate-declare c = search needs
+slice-aggregate-declare c = sym (length-replicate {A = ℕ} maxTape 0)
 
 declare-requires : tie.Need-declare-requires
-declare-requires c κs = search needs
+declare-requires c κs = tt
 
 enum-known-answer : tie.Need-enum-known-answer
-enum-known-answer c = search needs
+enum-known-answer c = c .match .keys1
 
 put-refused-requires : tie.Need-put-refused-requires
-put-refused-requires c κs = search needs
+put-refused-requires c κs = tt
 
 enum-told : tie.Need-enum-told
-enum-told c = search needs
+enum-told c = c .match .keys2
 
 slice-aggregate-fill-settled : tie.Need-slice-aggregate-fill-settled
 slice-aggregate-fill-settled c = search needs
@@ -41,7 +41,7 @@ fill-settled-requires c κs =
     (given .pre .0, given .pre .1, few-names tape (sym (declare-is tape (length-replicate {A = ℕ} maxTape 0)) ∙ found .1))
 
 same-length : tie.Need-same-length
-same-length c = search needs
+same-length c = c .before .text .given
 
 returns : tie.Need-returns
 returns c =
@@ -55,7 +55,7 @@ returns c =
     laid-same (now (args .text)) 0 _ (ap said (listed-fault tape (origin (args .initial)) fault)) (put .put-refused .ensures)
 
 same-length-2 : tie.Need-same-length-2
-same-length-2 c = search needs
+same-length-2 c = c .before .text2 .given
 
 returns-2 : tie.Need-returns-2
 returns-2 c =

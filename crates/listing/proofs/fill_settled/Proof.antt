@@ -9,7 +9,7 @@ use Rattle.walk.specs.Numbers.{readsNoted}
 use Rattle.passes.specs.Passes as Passes
 use Rattle.passes.specs.Settle.{settleOf, left}
 use Rattle.builder.proofs.Builds.{settle-allowed, settled-refused, settled-after}
-use Rattle.listing.specs.Call.{said}
+use Rattle.record_lines.specs.Records.{said}
 use Rattle.listing.proofs.Listings.{listed-after, listed-refused}
 use Rattle.listing.proofs.fill_settled.Statement.{statement}
 use Rattle.listing.proofs.fill_settled.Tie as tie
@@ -26,8 +26,8 @@ put-refused-requires c κs = search needs
 enum-known-answer-2 : tie.Need-enum-known-answer-2
 enum-known-answer-2 c = search needs
 
-fill-tried-requires : tie.Need-fill-tried-requires
-fill-tried-requires c κs = search needs
+put-records-requires : tie.Need-put-records-requires
+put-records-requires c κs = tt
 
 same-length : tie.Need-same-length
 same-length c = search needs
@@ -52,8 +52,8 @@ same-length-2 c = search needs
 
 returns-2 : tie.Need-returns-2
 returns-2 c =
-    let tried = c .before .before in
-    let told = tried .before .before .before .before in
+    let put = c .before .before in
+    let told = put .before .before .before .before in
     let settled = told .before .before in
     let given = settled .before .before .before .before in
     let args = given .args in
@@ -64,7 +64,8 @@ returns-2 c =
     let xs = statements tape in
     let o = origin (args .initial) in
     let found = settled-after (told .answer2 .given .1) (Passes.settled reads xs o) (settled .settle .ensures ∙ ap left all) in
-    laid-same (now (args .text)) 0 _ (ap said (listed-after reads xs o (given .pre .2) found)) (tried .fill-tried .ensures)
+    laid-same (now (args .text)) 0 _ (ap said (listed-after tape nodes (args .initial) (given .pre .0) (given .pre .1) (given .pre .2) found))
+    (put .put-records .ensures)
 
 pub fill-settled-spec : {M : Type 1} → statement M
 fill-settled-spec =
@@ -74,7 +75,7 @@ fill-settled-spec =
     enum-known-answer
     put-refused-requires
     enum-known-answer-2
-    fill-tried-requires
+    put-records-requires
     same-length
     returns
     same-length-2

@@ -1,8 +1,8 @@
 -- No line, or that of the record's place, bytes and mnemonic. Assumes nothing.
 use borrow.Author.Needs.{needs}
-use Rattle.listing.proofs.Shown.{no-line, line-put}
-use Rattle.listing.proofs.put_record.Statement.{statement}
-use Rattle.listing.proofs.put_record.Tie as tie
+use Rattle.record_lines.proofs.Shown.{no-line, line-put}
+use Rattle.record_lines.proofs.put_record.Statement.{statement}
+use Rattle.record_lines.proofs.put_record.Tie as tie
 
 returns : tie.Need-returns
 returns c =

@@ -15,7 +15,7 @@ use Rattle.lines.specs.Text.{line}
 use Rattle.form.specs.Statements.{What, whatOf}
 use Rattle.form.proofs.Said.{whatBy, by-kind, said}
 use Rattle.tries.specs.Steps.{bytesIn}
-use Rattle.listing.specs.Listing.{mnemonicOf, lineOf}
+use Rattle.record_lines.specs.Records.{mnemonicOf, lineOf}
 
 -- ---- what it is called
 

@@ -2,8 +2,8 @@
 use mathlib.Core.Path.{sym, _∙_}
 use borrow.Author.Needs.{needs}
 use Rattle.tries.proofs.Drawing.{behind-set, behind-bytes}
-use Rattle.listing.proofs.place_behind.Statement.{statement}
-use Rattle.listing.proofs.place_behind.Tie as tie
+use Rattle.record_lines.proofs.place_behind.Statement.{statement}
+use Rattle.record_lines.proofs.place_behind.Tie as tie
 
 u8-at-requires : tie.Need-u8-at-requires
 u8-at-requires c κs = search needs

@@ -39,8 +39,8 @@ use Rattle.tries.proofs.Lengths.{try-length, try-short, behind-step}
 use Rattle.tries.proofs.Passed.{tried-has}
 use Rattle.tries.proofs.Drawing.{behind-bytes}
 use Rattle.tries.proofs.Advancing.{fine-code, fault-code}
-use Rattle.listing.specs.Listing as Listing
-use Rattle.listing.specs.Listing.{lineOf}
+use Rattle.record_lines.specs.Records as Records
+use Rattle.record_lines.specs.Records.{lineOf}
 
 -- ---- a try where nothing is compared
 
@@ -102,7 +102,7 @@ module _ (tape nodes : List ℕ) (numbers : ℕ → Option ℤ) (at : ℕ) (r : 
   reads = readsNoted tape nodes
 
   abbrev lines : Walk → ℕ → List ℕ
-  lines w i = Listing.lines reads numbers w (statementsAt tape i)
+  lines w i = Records.lines reads numbers w (statementsAt tape i)
 
   abbrev bytes : List ℕ
   bytes = bytesHere (t .walk .place) at r v
@@ -123,7 +123,7 @@ module _ (tape nodes : List ℕ) (numbers : ℕ → Option ℤ) (at : ℕ) (r : 
         let k = getD r 0 0 in
         record {
           shown =
-              ap (Listing.lines reads numbers (t .walk)) (statements-inner tape at goes-on (ap isInner (sym is) ∙ e))
+              ap (Records.lines reads numbers (t .walk)) (statements-inner tape at goes-on (ap isInner (sym is) ∙ e))
               ∙ (λ i. lineOf (t .walk .place) (whatOf r) (none i) ++ lines (t .walk) (at + length (sym is i)));
           short = omega (arith, ap length none);
           place =
@@ -149,7 +149,7 @@ module _ (tape nodes : List ℕ) (numbers : ℕ → Option ℤ) (at : ℕ) (r : 
           let long = ap length same ∙ try-length c own (here w) at (whatOf r) v (p .bytes) fine in
           record {
             shown =
-                ap (Listing.lines reads numbers w)
+                ap (Records.lines reads numbers w)
                 (statements-one tape at goes-on (ap isInner (sym is) ∙ e)
                 ∙ ap (λ (x : List ℕ). statementOf at x ∷ statementsAt tape (at + length x)) (sym is))
                 ∙ (λ i. lineOf (w .place) (whatOf r) ((listed ∙ sym same) i) ++ lines (p .is i .walk) (at + length r));

@@ -6,9 +6,9 @@ use mir.Syntax.{w64}
 use mir.Facts.{toZ-pos}
 use borrow.Author.Needs.{needs}
 use Rattle.walk.specs.Numbers.{numbersIn}
-use Rattle.listing.proofs.Walking.{Going, going-start, going-past, going-last, inside, some-bytes, going-short, going-on}
-use Rattle.listing.proofs.put_lines.Statement.{statement}
-use Rattle.listing.proofs.put_lines.Tie as tie
+use Rattle.record_lines.proofs.Walking.{Going, going-start, going-past, going-last, inside, some-bytes, going-short, going-on}
+use Rattle.record_lines.proofs.put_lines.Statement.{statement}
+use Rattle.record_lines.proofs.put_lines.Tie as tie
 
 abbrev Inv-loop : tie.InvT-loop
 Inv-loop tape nodes known number initial text₀ place₀ end₀ at₀ text place end at =

@@ -5,9 +5,9 @@ use mir.Facts.{toZ-pos}
 use denote.Ref.{now}
 use borrow.Author.Needs.{needs}
 use Rattle.evaluator.specs.Says.{saysValue}
-use Rattle.listing.proofs.Records.{bytes-inner, bytes-refused, bytes-fine}
-use Rattle.listing.proofs.bytes_of.Statement.{statement}
-use Rattle.listing.proofs.bytes_of.Tie as tie
+use Rattle.record_lines.proofs.Records.{bytes-inner, bytes-refused, bytes-fine}
+use Rattle.record_lines.proofs.bytes_of.Statement.{statement}
+use Rattle.record_lines.proofs.bytes_of.Tie as tie
 
 is-inner-requires : tie.Need-is-inner-requires
 is-inner-requires c κs = search needs

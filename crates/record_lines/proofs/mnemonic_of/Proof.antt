@@ -1,8 +1,8 @@
 -- An instruction, or what has dashes. Assumes nothing.
 use borrow.Author.Needs.{needs}
-use Rattle.listing.proofs.Shown.{called, uncalled}
-use Rattle.listing.proofs.mnemonic_of.Statement.{statement}
-use Rattle.listing.proofs.mnemonic_of.Tie as tie
+use Rattle.record_lines.proofs.Shown.{called, uncalled}
+use Rattle.record_lines.proofs.mnemonic_of.Statement.{statement}
+use Rattle.record_lines.proofs.mnemonic_of.Tie as tie
 
 u8-at-requires : tie.Need-u8-at-requires
 u8-at-requires c κs = search needs

@@ -26,9 +26,9 @@ use Rattle.tries.specs.Steps.{bytesIn, placeBehind, triedOver}
 use Rattle.tries.proofs.Walking.{over-low, over-one}
 use Rattle.tries.proofs.Advancing.{bytes-code}
 use Rattle.builder.specs.Build.{builder}
-use Rattle.listing.specs.Listing.{lineOf, lines}
-use Rattle.listing.specs.Steps.{AllPass}
-use Rattle.listing.proofs.Records.{bytesHere, Behind, behind}
+use Rattle.record_lines.specs.Records.{lineOf, lines}
+use Rattle.record_lines.specs.Steps.{AllPass}
+use Rattle.record_lines.proofs.Records.{bytesHere, Behind, behind}
 
 -- ---- what each turn keeps
 
