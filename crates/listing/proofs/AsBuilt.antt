@@ -14,8 +14,9 @@ use Rattle.walk.specs.Values.{Values, numbered}
 use Rattle.passes.specs.Passes.{settled}
 use Rattle.reads.specs.Reads.{readsOn}
 use Rattle.builder.specs.Build.{Build, triedWith, builtBy, built}
-use Rattle.listing.specs.Text.{lastLine}
-use Rattle.listing.specs.Listing.{lines, listedWith, listedBy, listed}
+use Rattle.lines.specs.Text.{lastLine}
+use Rattle.record_lines.specs.Records.{lines}
+use Rattle.listing.specs.Listing.{listedWith, listedBy, listed}
 use Rattle.listing.specs.Theorems.{AsBuilt}
 
 -- l: the listing, where b is the build

@@ -1,6 +1,6 @@
 -- What a listing says and leaves, for each way out of the call. Assumes nothing.
 use mathlib.Core.List.{List}
-use mathlib.Core.Path.{_≡_, _∙_}
+use mathlib.Core.Path.{_≡_, ap, _∙_}
 use Prim.Native.Nat.{ℕ, _≤_, _<_}
 use native.Mathlib.Omega.{arith}
 use lib.ListN.{length}
@@ -9,11 +9,14 @@ use Rattle.refusals.specs.Answer.{Done, Refused}
 use Rattle.refusals.specs.Memory.{over}
 use Rattle.refusals.specs.Table.{argument}
 use Rattle.refusals.proofs.Pick.{at-true, at-false}
+use Rattle.page.specs.Page.{laid}
+use Rattle.page.proofs.Laying.{all-fit}
+use Rattle.lines.specs.Text.{refusedLine}
+use Rattle.record_lines.specs.Records.{said}
 use Rattle.walk.specs.Walk.{origin}
-use Rattle.listing.specs.Text.{refusedLine}
 use Rattle.listing.specs.Listing.{listed}
-use Rattle.listing.specs.Call.{said, listing, listOf}
-use Rattle.listing.specs.Steps.{Puts}
+use Rattle.listing.specs.Call.{listing, listOf}
+use Rattle.listing.proofs.Lengths.{listing-short}
 
 -- ---- the arguments
 
@@ -38,9 +41,11 @@ module _ (tape : List ℕ) (initial : ℕ) where
     unfolding listOf
     other-length d = at-false (Done (length (listing tape initial)), over text 0 (listing tape initial)) _ (ne-eqb (length text) 1310740 d)
 
-    pub that-length : length text ≡ 1310740 → {text′ : List ℕ} {end : ℕ} → Puts text 0 (listing tape initial) text′ end
+    pub that-length : length text ≡ 1310740 → {text′ : List ℕ} {end : ℕ} → (end, text′) ≡ laid text 0 (listing tape initial)
         → (Done end, text′) ≡ listOf tape initial text
     unfolding listOf
-    that-length e {text′} {end} (p, q) =
-        let long : end ≡ length (listing tape initial) = omega (arith, q) in
-        (λ i. (Done (long i), p i)) ∙ at-true _ (Refused argument, text) (eq-eqb (length text) 1310740 e)
+    that-length e {text′} {end} put =
+        let all = put ∙ all-fit text 0 (listing tape initial) (omega (arith, e, listing-short tape initial)) in
+        let long : end ≡ length (listing tape initial) = omega (arith, ap (λ (z : ℕ × List ℕ). z .0) all) in
+        let there : text′ ≡ over text 0 (listing tape initial) = ap (λ (z : ℕ × List ℕ). z .1) all in
+        (λ i. (Done (long i), there i)) ∙ at-true _ (Refused argument, text) (eq-eqb (length text) 1310740 e)

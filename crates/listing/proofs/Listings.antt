@@ -1,16 +1,14 @@
--- A listing by what is noted is the listing by what query finds; numbers that stand in arrays give the same listing; and behind the
--- tries that listing is put. Assumes nothing.
+-- A listing by what is noted is the listing by what query finds; and numbers that stand in arrays give the same listing. Assumes nothing.
 use mathlib.Core.List.{List, [], _∷_, _++_}
 use mathlib.Core.Option.{Option}
 use mathlib.Core.Path.{_≡_, refl, sym, ap, _∙_}
-use Prim.Native.Nat.{ℕ, suc, _*_, _≤_, _<_}
+use Prim.Native.Nat.{ℕ, suc, _≤_, _<_}
 use native.Mathlib.Omega.{arith}
 use lib.IntN.{ℤ}
 use lib.ListN.{length}
 use Rattle.refusals.specs.Answer.{pick}
 use Rattle.refusals.specs.AnswerAt.{AnswerAt, Fine, Fault, part, mapped, andThen}
-use Rattle.refusals.proofs.Never.{never}
-use Rattle.refusals.proofs.Answers.{fine-value, fault-is}
+use Rattle.lines.specs.Text.{lastLine}
 use Rattle.segment.specs.Segment.{size}
 use Rattle.symbols.specs.declared.SymbolTable.{SymbolTable}
 use Rattle.form.specs.Form.{maxTape}
@@ -28,21 +26,16 @@ use Rattle.walk.proofs.Columns.{by-node}
 use Rattle.passes.specs.Passes.{settled}
 use Rattle.passes.proofs.Agrees.{settled-alike}
 use Rattle.passes.proofs.Settles.{least, passes-length}
-use Rattle.tries.specs.declared.Written as W
-use Rattle.tries.specs.declared.Written.the-variants as written
 use Rattle.tries.specs.Try.{plain, tryOf}
 use Rattle.tries.specs.Tries.{Trying, start, tryAt, tries}
-use Rattle.tries.specs.Write.{triedAll, writeOf, rangeOf, saysWritten}
+use Rattle.tries.specs.Write.{triedAll}
 use Rattle.tries.proofs.Agrees.{tries-alike, write-allowed}
 use Rattle.reads.specs.Reads.{readsOn}
 use Rattle.reads.proofs.Names.{declare-is}
 use Rattle.reads.proofs.Reading.{all-alike}
 use Rattle.builder.specs.Build.{builder, finished}
-use Rattle.listing.specs.Text.{lastLine, refusedLine}
-use Rattle.listing.specs.Listing.{lineOf, lines, listedWith, listedBy, listed}
-use Rattle.listing.specs.Call.{said}
-use Rattle.listing.specs.Steps.{Puts, AllPass, listedIn}
-use Rattle.listing.proofs.Puts.{same-put, puts-then}
+use Rattle.record_lines.specs.Records.{lineOf, lines, recorded}
+use Rattle.listing.specs.Listing.{listedWith, listedBy, listed}
 
 abbrev Reads : Type 0
 Reads = (ℕ → Option ℤ) → ℤ → ℕ → Value
@@ -75,8 +68,15 @@ module _ (r s : Reads) where
 -- ---- numbers that stand in arrays
 
 module _ (r : Reads) (xs : List Statement) (o : Origin) where
+  -- the listing after n passes, with numbers that stand in arrays, by node
+  listedIn : ℕ → Numbers → AnswerAt (List ℕ)
+  listedIn n numbers =
+      mapped
+      (λ t. lines r (numbersIn (numbers .known) (numbers .number)) (begin o) xs ++ lastLine (t .page .pen .start) (t .page .pen .end) n)
+      (tries r builder (numbersIn (numbers .known) (numbers .number)) (start o) xs)
+
   listed-arrays : declarations xs < 1024 → (n : ℕ) (L : Values) → settled r xs o ≡ Fine (n, L)
-      → listedIn r xs o n (numbersBy L) ≡ listedWith r xs o (n, L)
+      → listedIn n (numbersBy L) ≡ listedWith r xs o (n, L)
   unfolding listedIn numbersBy
   listed-arrays few n L e =
       let short : length L < 1024 = omega (arith, ap length (least r xs o e .1), passes-length r xs o n) in
@@ -90,12 +90,11 @@ module _ (r : Reads) (xs : List Statement) (o : Origin) where
       go (Fine t) = refl
       go (Fault m at) = refl
 
-  -- the listing behind the passes is that with their numbers
-  pub listed-after : declarations xs < 1024 → {n : ℕ} {numbers : Numbers}
-      → (L : Values) × (settled r xs o ≡ Fine (n, L)) × (numbers ≡ numbersBy L) → listedIn r xs o n numbers ≡ listedBy r xs o
+  listed-settled : declarations xs < 1024 → {n : ℕ} {numbers : Numbers}
+      → (L : Values) × (settled r xs o ≡ Fine (n, L)) × (numbers ≡ numbersBy L) → listedIn n numbers ≡ listedBy r xs o
   unfolding listedBy
-  listed-after few {n} (L, e, is) =
-      ap (listedIn r xs o n) is
+  listed-settled few {n} (L, e, is) =
+      ap (listedIn n) is
       ∙ listed-arrays few n L e
       ∙ sym (ap (λ (a : AnswerAt (ℕ × Values)). andThen a (listedWith r xs o)) e)
 
@@ -103,63 +102,15 @@ module _ (r : Reads) (xs : List Statement) (o : Origin) where
   unfolding listedBy
   listed-refused e = sym (ap (λ (a : AnswerAt (ℕ × Values)). andThen a (listedWith r xs o)) e)
 
--- ---- behind the tries
-
--- w: what they answer
-range-refused : {w : W.Written} {m at : ℕ} → w ≡ written.Refused m at → (a : AnswerAt Trying) → saysWritten w ≡ mapped rangeOf a
-    → a ≡ Fault m at
-range-refused is (Fine t) e = never (cc)
-range-refused is (Fault n i) e = sym (fault-is (sym (ap saysWritten is) ∙ e))
-
-range-fine : {w : W.Written} {from to : ℕ} → w ≡ written.Range from to → (a : AnswerAt Trying) → saysWritten w ≡ mapped rangeOf a
-    → (u : Trying) × (a ≡ Fine u) × ((from, to) ≡ rangeOf u)
-range-fine is (Fine t) e = (t, refl, fine-value (sym (ap saysWritten is) ∙ e))
-range-fine is (Fault n i) e = never (cc)
-
-module _ (tape nodes : List ℕ) (numbers : Numbers) (initial : ℕ) where
-  abbrev reads : Reads
-  reads = readsNoted tape nodes
-
-  abbrev known : ℕ → Option ℤ
-  known = numbersIn (numbers .known) (numbers .number)
-
-  abbrev all : AnswerAt Trying
-  all = tries reads builder known (start (origin initial)) (statements tape)
-
-  abbrev shown : List ℕ
-  shown = lines reads known (begin (origin initial)) (statements tape)
-
-  abbrev text : ℕ → Trying → List ℕ
-  text n t = shown ++ lastLine (t .page .pen .start) (t .page .pen .end) n
-
-  module _ (fits : length tape ≤ maxTape) (low : initial ≤ size) {places : ℕ} (whole : places ≡ size) (w : W.Written)
-      (told : saysWritten w ≡ mapped rangeOf (writeOf tape nodes numbers initial builder places)) where
-    tried : saysWritten w ≡ mapped rangeOf all
-    unfolding triedAll
-    tried = told ∙ ap (mapped rangeOf) (write-allowed tape nodes numbers initial builder fits low whole)
-
-    pub all-pass : {from to : ℕ} → w ≡ written.Range from to → AllPass reads known (statements tape) (origin initial)
-    all-pass is = let found = range-fine is all tried in (found .0, found .1)
-
-    -- m: the text before; what is put is the listing after n passes
-    module _ (n : ℕ) (m : List ℕ) where
-      abbrev Filled : List ℕ → ℕ → Type 0
-      Filled text′ end = Puts m 0 (said (listedIn reads (statements tape) (origin initial) n numbers)) text′ end
-
-      pub filled-refused : {i at : ℕ} → w ≡ written.Refused i at → {text′ : List ℕ} {end : ℕ} → Puts m 0 (refusedLine i at) text′ end
-          → Filled text′ end
-      unfolding listedIn
-      filled-refused is put = same-put m 0 _ _ (sym (ap (λ (a : AnswerAt Trying). said (mapped (text n) a)) (range-refused is all tried))) put
-
-      -- first the lines, then the last one
-      pub filled-lines : {from to : ℕ} → w ≡ written.Range from to → length m ≡ 1310740 → {text₁ text₂ : List ℕ} {mid end : ℕ}
-          → Puts m 0 shown text₁ mid × (mid ≤ 20 * length tape) → Puts text₁ mid (lastLine from to n) text₂ end → Filled text₂ end
-      unfolding listedIn
-      filled-lines {from} {to} is long (put, most) last =
-          let (u, fine, both) = range-fine is all tried in
-          same-put m 0 _ _
-          (ap (λ (p : ℕ × ℕ). shown ++ lastLine (p .0) (p .1) n) both ∙ sym (ap (λ (a : AnswerAt Trying). said (mapped (text n) a)) fine))
-          (puts-then m 0 shown _ _ (omega (arith, most, fits, long)) put (lastLine from to n) _ _ last)
+-- the listing behind the passes is that with their numbers
+module _ (tape nodes : List ℕ) (initial : ℕ) (fits : length tape ≤ maxTape) (low : initial ≤ size) where
+  pub listed-after : declarations (statements tape) < 1024 → {n : ℕ} {numbers : Numbers}
+      → (L : Values) × (settled (readsNoted tape nodes) (statements tape) (origin initial) ≡ Fine (n, L)) × (numbers ≡ numbersBy L)
+      → recorded tape nodes numbers n initial ≡ listedBy (readsNoted tape nodes) (statements tape) (origin initial)
+  unfolding recorded triedAll listedIn
+  listed-after few {n} {numbers} found =
+      ap (mapped _) (write-allowed tape nodes numbers initial builder fits low refl)
+      ∙ listed-settled (readsNoted tape nodes) (statements tape) (origin initial) few found
 
 -- ---- behind the names
 

@@ -5,7 +5,7 @@ use mathlib.Core.List.{List}
 use lib.Dec.{eqb, leb}
 use lib.ListN.{length}
 use Rattle.refusals.specs.Answer.{Answer, Done, Refused, pick}
-use Rattle.refusals.specs.AnswerAt.{AnswerAt, Fine, Fault}
+use Rattle.refusals.specs.AnswerAt.{Fault}
 use Rattle.refusals.specs.Memory.{over}
 use Rattle.refusals.specs.Table.{argument}
 use Rattle.segment.specs.Segment.{size}
@@ -13,7 +13,7 @@ use Rattle.form.specs.Form.{maxTape}
 use Rattle.walk.specs.Walk.{origin}
 use Rattle.listing.specs.declared.Listed as L
 use Rattle.listing.specs.declared.Listed.the-variants as cases
-use Rattle.listing.specs.Text.{refusedLine}
+use Rattle.record_lines.specs.Records.{said}
 use Rattle.listing.specs.Listing.{listed}
 
 -- ---- the text
@@ -21,11 +21,6 @@ use Rattle.listing.specs.Listing.{listed}
 -- "tape [..] at most 65,536 long, initial place [..] at most 65,536"
 abbrev pub isAllowed : (tape initial : ℕ) → Bool
 isAllowed tape initial = leb tape maxTape && leb initial size
-
--- a listing, or the refused line alone
-abbrev pub said : AnswerAt (List ℕ) → List ℕ
-said (Fine text) = text
-said (Fault number at) = refusedLine number at
 
 -- what a listing says of a tape
 unfoldable pub listing : List ℕ → ℕ → List ℕ

@@ -1,40 +1,20 @@
 -- The listing of a tape: a line for each record that writes, in tape order, and a last one; or the refusal of its build. Assumes
 -- nothing: these are definitions.
 use Prim.Native.Nat.{ℕ}
-use mathlib.Core.List.{List, [], _∷_, _++_}
+use mathlib.Core.List.{List, _++_}
 use mathlib.Core.Option.{Option}
 use lib.IntN.{ℤ}
-use Rattle.refusals.specs.AnswerAt.{AnswerAt, part, mapped, andThen}
-use Rattle.form.specs.Statements.{What, Statement, statements}
+use Rattle.refusals.specs.AnswerAt.{AnswerAt, mapped, andThen}
+use Rattle.form.specs.Statements.{Statement, statements}
 use Rattle.evaluator.specs.Expression.{Value}
 use Rattle.names.specs.Names.{namesOf}
-use Rattle.walk.specs.declared.Walk.{Walk}
 use Rattle.walk.specs.Walk.{Origin, begin}
-use Rattle.walk.specs.Values.{Values, numbered, stepAt}
+use Rattle.walk.specs.Values.{Values, numbered}
 use Rattle.passes.specs.Passes.{settled}
-use Rattle.tries.specs.Try.{plain}
-use Rattle.tries.specs.Tries.{tryAt}
 use Rattle.reads.specs.Reads.{readsOn}
 use Rattle.builder.specs.Build.{triedWith}
-use Rattle.listing.specs.Text.{line, lastLine}
-use Rattle.listing.specs.Mnemonics.{mnemonicOf}
-
--- ---- a line for each record that writes
-
--- a statement that writes these bytes at a place: none, no line
-abbrev pub lineOf : ℕ → What → List ℕ → List ℕ
-lineOf place x [] = []
-lineOf place x (b ∷ bs) = line place (b ∷ bs) (mnemonicOf x)
-
--- reads: what the expression at an offset comes to, where the nodes have these numbers, at a place
-module _ (reads : (ℕ → Option ℤ) → ℤ → ℕ → Value) (numbers : ℕ → Option ℤ) where
-  -- the bytes that a statement writes itself, where the walk is; also where a later one writes over them
-  abbrev pub bytesAt : Walk → Statement → List ℕ
-  bytesAt w x = part (tryAt reads plain numbers w x)
-
-  abbrev pub lines : Walk → List Statement → List ℕ
-  lines w [] = []
-  lines w (x ∷ xs) = lineOf (w .place) (x .says) (bytesAt w x) ++ lines (stepAt reads numbers w x) xs
+use Rattle.lines.specs.Text.{lastLine}
+use Rattle.record_lines.specs.Records.{lines}
 
 -- ---- the listing
 

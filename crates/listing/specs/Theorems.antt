@@ -5,7 +5,7 @@ use mathlib.Core.Path.{_≡_}
 use Rattle.refusals.specs.AnswerAt.{Fine, Fault}
 use Rattle.walk.specs.Walk.{Origin}
 use Rattle.builder.specs.Build.{Build, built}
-use Rattle.listing.specs.Text.{lastLine}
+use Rattle.lines.specs.Text.{lastLine}
 use Rattle.listing.specs.Listing.{listed}
 
 -- a listing says what the build says: it is refused where the build is, by the same number at the same offset, and else ends with the

@@ -1,43 +1,23 @@
 // The listing: a tape is built, and for each record that writes a line of its place, its bytes and its mnemonic goes into a lent text,
 // then a line of start, end and passes. A refused tape gives the refused line alone.
-mod text;
-
-use evaluator::Value;
 use form::LONGEST;
-use opcodes::Code;
 use passes::Passes;
 use refusals::ARGUMENT;
-use refusals::MOVED;
 use refusals::OutcomeAt;
-use symbols::Data;
-use symbols::NODES;
-use tape::SET_PLACE;
-use tries::Compares;
-use tries::Tried;
-use tries::Written;
-use walk::Numbers;
-ghost use mathlib.Core.List.{[]};
-ghost use mathlib.Core.Option.{none};
 ghost use mathlib.Core.Path.{_≡_};
-ghost use Prim.Native.Nat.{_*_, _≤_, _<_};
-ghost use lib.IntN.{pos};
-ghost use lib.ListN.{length, getD};
-ghost use Rattle.refusals.specs.Answer.{pick};
-ghost use Rattle.refusals.specs.AnswerAt.{part};
+ghost use Prim.Native.Nat.{_≤_, _<_};
+ghost use lib.ListN.{length};
 ghost use Rattle.segment.specs.Segment.{size};
 ghost use Rattle.edges.specs.Edges.{maxNodes};
-ghost use Rattle.opcodes.specs.Encode.{code};
+ghost use Rattle.page.specs.Page.{laid};
 ghost use Rattle.form.specs.Form.{maxTape};
-ghost use Rattle.form.specs.Statements.{whatOf, isInner, statements};
-ghost use Rattle.evaluator.specs.Says.{saysValue};
-ghost use Rattle.walk.specs.Walk.{origin, begin};
+ghost use Rattle.form.specs.Statements.{statements};
+ghost use Rattle.walk.specs.Walk.{origin};
 ghost use Rattle.walk.specs.Values.{declarations};
-ghost use Rattle.walk.specs.Numbers.{numbersIn, readsNoted};
-ghost use Rattle.tries.specs.Try.{plain, tryOf};
-ghost use Rattle.tries.specs.Steps.{placeBehind};
-ghost use Rattle.listing.specs.Listing.{lines, listedBy, listed};
-ghost use Rattle.listing.specs.Call.{said, listing, textPlaces, listOf, saysListed};
-ghost use Rattle.listing.specs.Steps.{Puts, AllPass, listedIn};
+ghost use Rattle.walk.specs.Numbers.{readsNoted};
+ghost use Rattle.record_lines.specs.Records.{said};
+ghost use Rattle.listing.specs.Listing.{listedBy, listed};
+ghost use Rattle.listing.specs.Call.{listing, listOf, saysListed};
 
 // How long the text is that is lent: twenty bytes for each byte of a tape, and twenty for the last line.
 pub const TEXT: usize = 1310740;
@@ -61,153 +41,46 @@ pub fn list(tape: &[u8], initial: usize, text: &mut [u8]) -> Listed
     Listed::Text(fill(tape, initial, text))
 }
 
-// Fills a text that is long enough; how much of it.
+// Fills a text; how much of it.
 fn fill(tape: &[u8], initial: usize, text: &mut [u8]) -> usize
-    requires { ⌜ length (now text) ≡ textPlaces ⌝ }
-    ensures { λ r. ⌜ Puts (now (text .entry)) 0 (listing (now (tape .entry)) initial) (now (text .exit)) r ⌝ }
+    ensures { λ r. ⌜ (r, now (text .exit)) ≡ laid (now (text .entry)) 0 (listing (now (tape .entry)) initial) ⌝ }
 {
     if LONGEST < tape.len() {
-        return text::put_refused(text, ARGUMENT, 0);
+        return lines::put_refused(text, 0, ARGUMENT, 0);
     }
     if SIZE < initial {
-        return text::put_refused(text, ARGUMENT, 0);
+        return lines::put_refused(text, 0, ARGUMENT, 0);
     }
     fill_names(tape, initial, text)
 }
 
 // Form and names.
 fn fill_names(tape: &[u8], initial: usize, text: &mut [u8]) -> usize
-    requires { ⌜ (length (now tape) ≤ maxTape) × (initial ≤ size) × (length (now text) ≡ textPlaces) ⌝ }
-    ensures { λ r. ⌜ Puts (now (text .entry)) 0 (said (listed (now (tape .entry)) (origin initial))) (now (text .exit)) r ⌝ }
+    requires { ⌜ (length (now tape) ≤ maxTape) × (initial ≤ size) ⌝ }
+    ensures { λ r. ⌜ (r, now (text .exit)) ≡ laid (now (text .entry)) 0 (said (listed (now (tape .entry)) (origin initial))) ⌝ }
 {
     let mut nodes = [0u16; SIZE];
     let declared = names::declare(tape, &mut nodes);
     let answer = declared.answer;
     match answer {
-        OutcomeAt::Refused { number, at } => text::put_refused(text, number, at),
+        OutcomeAt::Refused { number, at } => lines::put_refused(text, 0, number, at),
         OutcomeAt::Done => fill_settled(tape, &nodes, initial, text),
     }
 }
 
-// The names being resolved: the passes.
+// The names being resolved: the passes, then the lines.
 fn fill_settled<'a>(tape: &'a [u8], nodes: &'a [u16], initial: usize, text: &mut [u8]) -> usize
-    requires { ⌜ (length (now tape) ≤ maxTape) × (initial ≤ size) × (length (now text) ≡ textPlaces)
-        × (declarations (statements (now tape)) < maxNodes) ⌝ }
-    ensures { λ r. ⌜ Puts (now (text .entry)) 0
-        (said (listedBy (readsNoted (now (tape .entry)) (now (nodes .entry))) (statements (now (tape .entry))) (origin initial)))
-        (now (text .exit)) r ⌝ }
+    requires { ⌜ (length (now tape) ≤ maxTape) × (initial ≤ size) × (declarations (statements (now tape)) < maxNodes) ⌝ }
+    ensures { λ r. ⌜ (r, now (text .exit)) ≡ laid (now (text .entry)) 0
+        (said (listedBy (readsNoted (now (tape .entry)) (now (nodes .entry))) (statements (now (tape .entry))) (origin initial))) ⌝ }
 {
     let settled = passes::settle(tape, nodes, initial);
     let answer = settled.answer;
     match answer {
-        Passes::Refused { number, at } => text::put_refused(text, number, at),
+        Passes::Refused { number, at } => lines::put_refused(text, 0, number, at),
         Passes::After(n) => {
             let numbers = settled.numbers;
-            fill_tried(tape, nodes, numbers, n, initial, text)
+            record_lines::put_records(tape, nodes, numbers, n, initial, text)
         }
     }
-}
-
-// The numbers being settled: the tries, then the lines.
-fn fill_tried<'a>(
-    tape: &'a [u8],
-    nodes: &'a [u16],
-    numbers: Numbers,
-    passes: usize,
-    initial: usize,
-    text: &mut [u8],
-) -> usize
-    requires { ⌜ (length (now tape) ≤ maxTape) × (initial ≤ size) × (length (now text) ≡ textPlaces) ⌝ }
-    ensures { λ r. ⌜ Puts (now (text .entry)) 0
-        (said (listedIn (readsNoted (now (tape .entry)) (now (nodes .entry))) (statements (now (tape .entry))) (origin initial) passes numbers))
-        (now (text .exit)) r ⌝ }
-{
-    let compares = Compares {
-        label: MOVED,
-        constant: 0,
-    };
-    let mut image = [0u8; SIZE];
-    match tries::write(tape, nodes, numbers, initial, compares, &mut image) {
-        Written::Refused { number, at } => text::put_refused(text, number, at),
-        Written::Range { start, end } => {
-            let at = put_lines(tape, nodes, &numbers.known, &numbers.number, initial, text);
-            text::put_last(text, at, start, end, passes)
-        }
-    }
-}
-
-// A line for each record that writes. Every statement has passed its try.
-fn put_lines<'a>(
-    tape: &'a [u8],
-    nodes: &'a [u16],
-    known: &'a [bool; NODES],
-    number: &'a [i64; NODES],
-    initial: usize,
-    text: &mut [u8],
-) -> usize
-    requires { ⌜ (length (now tape) ≤ maxTape) × (initial ≤ size) × (length (now text) ≡ textPlaces)
-        × AllPass (readsNoted (now tape) (now nodes)) (numbersIn (now known) (now number)) (statements (now tape)) (origin initial) ⌝ }
-    ensures { λ r. ⌜ Puts (now (text .entry)) 0
-        (lines (readsNoted (now (tape .entry)) (now (nodes .entry))) (numbersIn (now (known .entry)) (now (number .entry)))
-        (begin (origin initial)) (statements (now (tape .entry)))) (now (text .exit)) r
-        × (r ≤ 20 * length (now (tape .entry))) ⌝ }
-{
-    let mut place = initial;
-    let mut end: usize = 0;
-    let mut at: usize = 0;
-    while at < tape.len() {
-        let rec = tape::record(tape, at);
-        if form::is_last(rec) {
-            return end;
-        }
-        let next = at + rec.len();
-        let value = walk::value_of(tape, nodes, known, number, place as i64, rec, next);
-        let bytes = bytes_of(rec, at, place, value);
-        end = text::put_record(text, end, place, rec, bytes);
-        place = place_behind(rec, value, place, bytes.len as usize);
-        at = next;
-    }
-    end
-}
-
-// The bytes that a record writes at a place: none where it is a part of an expression.
-fn bytes_of(rec: &[u8], at: usize, place: usize, value: Value) -> Code
-    requires { ⌜ place ≤ size ⌝ }
-    ensures { λ r. ⌜ r ≡ code (pick (isInner (now (rec .entry))) []
-        (part (tryOf plain none (pos place) at (whatOf (now (rec .entry))) (saysValue value)))) ⌝ }
-{
-    if form::is_inner(rec) {
-        return no_bytes();
-    }
-    let plain = Compares {
-        label: 0,
-        constant: 0,
-    };
-    match tries::attempt(plain, Data::Unresolved, place as i64, rec, at, value) {
-        Tried::Refused { .. } => no_bytes(),
-        Tried::Bytes(bytes) => bytes,
-    }
-}
-
-// No bytes.
-fn no_bytes() -> Code
-    ensures { λ r. ⌜ r ≡ code [] ⌝ }
-{
-    Code {
-        len: 0,
-        b0: 0,
-        b1: 0,
-        b2: 0,
-    }
-}
-
-// The place behind a record that writes so many bytes.
-fn place_behind(rec: &[u8], value: Value, place: usize, len: usize) -> usize
-    requires { ⌜ (place ≤ size) × (len ≤ 3) ⌝ }
-    ensures { λ r. ⌜ r ≡ placeBehind (getD (now (rec .entry)) 0 0) (saysValue value) place len ⌝ }
-{
-    if little::u8_at(rec, 0) == SET_PLACE {
-        return walk::moved_to(walk::number_of(value), place);
-    }
-    place + len
 }

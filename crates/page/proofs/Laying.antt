@@ -96,16 +96,27 @@ module _ (memory : List ℕ) (at : ℕ) (ys : List ℕ) where
         go true e = with-room (leb-true at (length memory) e)
         go false e = let above : length memory < at = leb-false at (length memory) e in without-room (omega arith)
 
+module _ (memory : List ℕ) (at : ℕ) (xs : List ℕ) where
+  -- what is laid behind them is laid with them
+  pub laid-then : {memory′ : List ℕ} {end : ℕ} → (end, memory′) ≡ laid memory at xs → (ys : List ℕ) {z : ℕ × List ℕ}
+      → z ≡ laid memory′ end ys → z ≡ laid memory at (xs ++ ys)
+  laid-then first ys second = second ∙ ap (λ (z : ℕ × List ℕ). laid (z .1) (z .0) ys) first ∙ laid-both memory at ys xs
+
+  -- the same bytes, in other words
+  pub laid-same : {ys : List ℕ} → xs ≡ ys → {z : ℕ × List ℕ} → z ≡ laid memory at xs → z ≡ laid memory at ys
+  laid-same e put = put ∙ ap (laid memory at) e
+
+  -- where there is room, all of them are
+  pub all-fit : at + length xs ≤ length memory → laid memory at xs ≡ written memory at xs
+  unfolding laid
+  all-fit room = ap (written memory at) (take-all (length memory - at) xs (omega arith))
+
 -- ---- loops: what is laid so far, then the rest from here, is the whole
 
 module _ (memory : List ℕ) (at : ℕ) (rest : List ℕ) (whole : ℕ × List ℕ) (inv : laid memory at rest ≡ whole) where
   pub goes-on : (xs ys : List ℕ) → rest ≡ xs ++ ys → (memory′ : List ℕ) (end : ℕ) → (end, memory′) ≡ laid memory at xs
       → laid memory′ end ys ≡ whole
-  goes-on xs ys parts memory′ end e =
-      ap (λ (z : ℕ × List ℕ). laid (z .1) (z .0) ys) e
-      ∙ laid-both memory at ys xs
-      ∙ ap (laid memory at) (sym parts)
-      ∙ inv
+  goes-on xs ys parts memory′ end e = laid-then memory at xs e ys refl ∙ ap (laid memory at) (sym parts) ∙ inv
 
   pub all-laid : rest ≡ [] → (at, memory) ≡ whole
   all-laid none = nothing-laid memory at ∙ ap (laid memory at) (sym none) ∙ inv

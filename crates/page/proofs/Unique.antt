@@ -3,12 +3,16 @@
 use mathlib.Core.List.{List}
 use Prim.Native.Nat.{ℕ}
 use Rattle.refusals.proofs.Unique.{One, same}
+use Rattle.page.proofs.put.Reads as put
 use Rattle.page.proofs.put_all.Reads as put-all
 use Rattle.page.proofs.put_often.Reads as put-often
 use Rattle.page.proofs.put_hex.Reads as put-hex
 use Rattle.page.proofs.cut.Reads as cut
 
 -- the offset behind what was laid, and the memory at exit
+pub put-one : One {S = λ k. ℕ × List ℕ} (λ k x e. (x, e .0 .now)) put.Post
+put-one k a x y e f p q = same p q
+
 pub put-all-one : One {S = λ k. ℕ × List ℕ} (λ k x e. (x, e .0 .now)) put-all.Post
 put-all-one k a x y e f p q = same p q
 

@@ -7,7 +7,7 @@ ghost use Rattle.page.specs.Page.{laid, repeated, digitIn, pair, followi
 ghost use Rattle.page.specs.Steps.{below16};
 
 // One byte.
-fn put(bytes: &mut [u8], at: usize, byte: u8) -> usize
+pub fn put(bytes: &mut [u8], at: usize, byte: u8) -> usize
     ensures { λ r. ⌜ (r, now (bytes .exit)) ≡ laid (now (bytes .entry)) at (byte ∷ []) ⌝ }
 {
     if bytes.len() <= at {

@@ -1,7 +1,7 @@
 -- An argument out of its range is the refused line of a 1; else the listing. Assumes nothing.
 use denote.Ref.{now}
 use borrow.Author.Needs.{needs}
-use Rattle.listing.proofs.Puts.{same-put}
+use Rattle.page.proofs.Laying.{laid-same}
 use Rattle.listing.proofs.Calls.{too-long, too-high, allowed}
 use Rattle.listing.proofs.fill.Statement.{statement}
 use Rattle.listing.proofs.fill.Tie as tie
@@ -17,7 +17,7 @@ returns c =
     let put = c .before .before in
     let tested = put .before .before in
     let args = tested .before .before .before .args in
-    same-put (now (args .text)) 0 _ _ (too-long (now (args .tape)) (args .initial) (tested .if1 .taken)) (put .put-refused .ensures)
+    laid-same (now (args .text)) 0 _ (too-long (now (args .tape)) (args .initial) (tested .if1 .taken)) (put .put-refused .ensures)
 
 put-refused-requires-2 : tie.Need-put-refused-requires-2
 put-refused-requires-2 c κs = search needs
@@ -30,7 +30,7 @@ returns-2 c =
     let put = c .before .before in
     let tested = put .before .before in
     let args = tested .before .before .before .before .args in
-    same-put (now (args .text)) 0 _ _ (too-high (now (args .tape)) (args .initial) (tested .before .if1 .left) (tested .if2 .taken))
+    laid-same (now (args .text)) 0 _ (too-high (now (args .tape)) (args .initial) (tested .before .if1 .left) (tested .if2 .taken))
     (put .put-refused2 .ensures)
 
 fill-names-requires : tie.Need-fill-names-requires
@@ -44,7 +44,7 @@ returns-3 c =
     let filled = c .before .before in
     let tested = filled .before .before in
     let args = tested .before .before .before .before .args in
-    same-put (now (args .text)) 0 _ _ (allowed (now (args .tape)) (args .initial) (tested .before .if1 .left) (tested .if2 .left))
+    laid-same (now (args .text)) 0 _ (allowed (now (args .tape)) (args .initial) (tested .before .if1 .left) (tested .if2 .left))
     (filled .fill-names .ensures)
 
 pub fill-spec : {M : Type 1} → statement M

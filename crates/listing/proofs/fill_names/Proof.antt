@@ -4,29 +4,29 @@ use Prim.Native.Nat.{ℕ}
 use lib.ListN.{replicate, length-replicate}
 use denote.Ref.{now}
 use borrow.Author.Needs.{needs}
+use Rattle.page.proofs.Laying.{laid-same}
 use Rattle.form.specs.Form.{maxTape}
 use Rattle.walk.specs.Walk.{origin}
 use Rattle.reads.proofs.Names.{names-refused, names-done, declare-is, few-names}
-use Rattle.listing.specs.Call.{said}
-use Rattle.listing.proofs.Puts.{same-put}
+use Rattle.record_lines.specs.Records.{said}
 use Rattle.listing.proofs.Listings.{listed-fault, listed-noted}
 use Rattle.listing.proofs.fill_names.Statement.{statement}
 use Rattle.listing.proofs.fill_names.Tie as tie
 
 slice-aggregate-declare : tie.Need-slice-aggregate-declare
-slice-aggregate-declare c = search needs
+slice-aggregate-declare c = sym (length-replicate {A = ℕ} maxTape 0)
 
 declare-requires : tie.Need-declare-requires
-declare-requires c κs = search needs
+declare-requires c κs = tt
 
 enum-known-answer : tie.Need-enum-known-answer
-enum-known-answer c = search needs
+enum-known-answer c = c .match .keys1
 
 put-refused-requires : tie.Need-put-refused-requires
-put-refused-requires c κs = search needs
+put-refused-requires c κs = tt
 
 enum-told : tie.Need-enum-told
-enum-told c = search needs
+enum-told c = c .match .keys2
 
 slice-aggregate-fill-settled : tie.Need-slice-aggregate-fill-settled
 slice-aggregate-fill-settled c = search needs
@@ -38,10 +38,10 @@ fill-settled-requires c κs =
     let given = declared .before .before .before .before in
     let tape = now (given .args .tape) in
     let found = names-done (told .enum-told .given .1) _ (declared .declare .ensures .0) in
-    (given .pre .0, given .pre .1, given .pre .2, few-names tape (sym (declare-is tape (length-replicate {A = ℕ} maxTape 0)) ∙ found .1))
+    (given .pre .0, given .pre .1, few-names tape (sym (declare-is tape (length-replicate {A = ℕ} maxTape 0)) ∙ found .1))
 
 same-length : tie.Need-same-length
-same-length c = search needs
+same-length c = c .before .text .given
 
 returns : tie.Need-returns
 returns c =
@@ -52,10 +52,10 @@ returns c =
     let tape = now (args .tape) in
     let refuses = names-refused (told .answer .given .1) _ (declared .declare .ensures .0) in
     let fault = sym (declare-is tape (length-replicate {A = ℕ} maxTape 0)) ∙ refuses in
-    same-put (now (args .text)) 0 _ _ (ap said (listed-fault tape (origin (args .initial)) fault)) (put .put-refused .ensures)
+    laid-same (now (args .text)) 0 _ (ap said (listed-fault tape (origin (args .initial)) fault)) (put .put-refused .ensures)
 
 same-length-2 : tie.Need-same-length-2
-same-length-2 c = search needs
+same-length-2 c = c .before .text2 .given
 
 returns-2 : tie.Need-returns-2
 returns-2 c =
@@ -67,7 +67,7 @@ returns-2 c =
     let long = length-replicate {A = ℕ} maxTape 0 in
     let found = names-done (told .enum-told .given .1) _ (declared .declare .ensures .0) in
     let is = sym (declare-is tape long) ∙ found .1 in
-    same-put (now (args .text)) 0 _ _
+    laid-same (now (args .text)) 0 _
     (ap said (listed-noted tape (origin (args .initial)) is (replicate maxTape 0) long (declared .declare .ensures .1)))
     (settled .fill-settled .ensures)
 
