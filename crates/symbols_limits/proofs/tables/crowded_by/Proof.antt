@@ -1,8 +1,8 @@
 -- `crowded_by` is safe and ends: each turn leaves fewer edges. Nothing has to hold from turn to turn. Assumes nothing.
 use Prim.Native.Nat.{_-_}
 use native.Mathlib.Omega.{arith}
-use Rattle.symbols_limits.proofs.crowded_by.Statement.{statement}
-use Rattle.symbols_limits.proofs.crowded_by.Tie as tie
+use Rattle.symbols_limits.proofs.tables.crowded_by.Statement.{statement}
+use Rattle.symbols_limits.proofs.tables.crowded_by.Tie as tie
 
 abbrev Inv-loop : tie.InvT-loop
 Inv-loop edges path fuller₀ i₀ fuller i = Unit {0}

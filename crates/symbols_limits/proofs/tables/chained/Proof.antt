@@ -1,8 +1,8 @@
 -- `chained` is safe and ends: each turn leaves fewer scopes. Nothing has to hold from turn to turn. Assumes nothing.
 use Prim.Native.Nat.{_-_}
 use native.Mathlib.Omega.{arith}
-use Rattle.symbols_limits.proofs.chained.Statement.{statement}
-use Rattle.symbols_limits.proofs.chained.Tie as tie
+use Rattle.symbols_limits.proofs.tables.chained.Statement.{statement}
+use Rattle.symbols_limits.proofs.tables.chained.Tie as tie
 
 abbrev Inv-loop : tie.InvT-loop
 Inv-loop last end longer₀ i₀ longer i = Unit {0}
