@@ -3,9 +3,6 @@ use builder::Built;
 use libc::STDOUT_FILENO;
 use symbols::NODES;
 
-// How many bytes a tape in hexadecimal has at most.
-const ROOM: usize = 100;
-
 // How many numbers or bytes a line has at most.
 const MOST: usize = 16;
 
@@ -146,21 +143,20 @@ pub fn print_built(built: Built, image: &[u8], list: &[i64]) {
     }
 }
 
-// Prints the name of a case, and what a build of the tape from that place answers.
-pub fn tape(name: &[u8], tape: &[u8], initial: usize) {
+// Prints the name of a case, which its line has from that word on.
+pub fn print_name(line: &[u8], from: usize) {
+    print(script::words_from(line, from));
+    print(b": ");
+}
+
+// Builds the tape: PLACE NAME.
+pub fn build(line: &[u8], tape: &[u8]) {
     let mut image = [0u8; builder::SIZE];
     let mut list = [0i64; NODES];
     let mut work = [0u16; builder::WORK];
-    print(name);
-    print(b": ");
+    print_name(line, 2);
+    let initial = script::number(line, 1);
     let built = builder::build(tape, initial, &mut image, &mut list, &mut work);
     print_built(built, &image, &list);
     print(b"\n");
-}
-
-// The same of a tape that is written in hexadecimal.
-pub fn case(name: &[u8], text: &[u8], initial: usize) {
-    let mut room = [0u8; ROOM];
-    let end = page::put_hex(&mut room, 0, text);
-    tape(name, page::cut(&room, end), initial);
 }

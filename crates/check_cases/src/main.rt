@@ -1,13 +1,71 @@
-// What `checker::check` answers: a line for each case, with a few words for it, then `accepted`, or the refusal and its offset. Every
-// case comes with the answer that document 01 has for it, and one that is answered otherwise says WRONG.
-mod limits;
-mod numbers;
-mod places;
+// What `checker::check` answers to the cases on standard input, whose head says how they are written: a line for each case, with a few
+// words for it, then `accepted`, or the refusal and its offset. Document 01's answers stand in stdout.
+mod hand;
 mod show;
 
-// Checks everything.
+use hand::Hand;
+use libc::STDIN_FILENO;
+
+// Room for the cases; for a tape and for bytes, of which one is too many; and for numbers.
+const CASES: usize = 65536;
+
+const ROOM: usize = 65537;
+
+const NUMBERS: usize = 2000;
+
+// Reads the cases.
 fn main() {
-    numbers::run();
-    places::run();
-    limits::run();
+    let mut cases = [0u8; CASES];
+    let mut tape = [0u8; ROOM];
+    let mut numbers = [0i64; NUMBERS];
+    let mut bytes = [0u8; ROOM];
+    let length = io::read_full(STDIN_FILENO, &mut cases);
+    run(&cases[..length], &mut tape, &mut numbers, &mut bytes);
+}
+
+// Goes from line to line.
+fn run(cases: &[u8], tape: &mut [u8], numbers: &mut [i64], bytes: &mut [u8]) {
+    let count = script::lines(cases);
+    let mut hand = hand::empty();
+    let mut i = 0;
+    while i < count {
+        hand = obey(script::line(cases, i), hand, tape, numbers, bytes);
+        i += 1;
+    }
+}
+
+// Changes what is handed in, or checks it; gives how long it is.
+fn obey(line: &[u8], hand: Hand, tape: &mut [u8], numbers: &mut [i64], bytes: &mut [u8]) -> Hand {
+    if script::is_tape(line) {
+        return hand.with_tape(script::put_tape(tape, hand.tape, line));
+    }
+    if hand::is_bytes(line) {
+        return hand.with_bytes(hand::put_bytes(bytes, hand.bytes, line));
+    }
+    if hand::is_numbers(line) {
+        return hand.with_numbers(hand::put_numbers(numbers, hand.numbers, line));
+    }
+    ask(
+        line,
+        page::cut(tape, hand.tape),
+        hand::first(numbers, hand.numbers),
+        page::cut(bytes, hand.bytes),
+    );
+    hand
+}
+
+// Checks as a line says.
+fn ask<'a>(line: &[u8], tape: &'a [u8], numbers: &'a [i64], bytes: &'a [u8]) {
+    if script::is_silent(line) {
+        return;
+    }
+    if script::is_command(line, b"check") {
+        return show::check(line, tape, numbers, bytes);
+    }
+    if script::is_command(line, b"built") {
+        return show::built(line, tape);
+    }
+    show::print(b"not known: ");
+    show::print(line);
+    show::print(b"\n");
 }

@@ -1,5 +1,5 @@
 // Sound expressions and tapes, whole, cut at every offset, and with each byte changed; each goes to all three calls.
-use crate::draft;
+use crate::dice;
 use crate::judge;
 use crate::judge::Damage;
 use crate::tally;
@@ -8,29 +8,50 @@ use symbols::Data;
 use symbols::SymbolTable;
 use tape::FLAGS;
 
-// How many expressions are made, and how many tapes; and how many bytes one may have.
-const DRAFTS: u64 = 16;
-
-const ROOM: usize = 2048;
-
-// How many records an expression has at most, and how many statements a tape has.
-const RECORDS: usize = 24;
-
-const STATEMENTS: usize = 8;
+// Where the generator begins.
+const SEED: u64 = 6502;
 
 // The scope and the current place of an evaluation.
 const SCOPE: u16 = 1;
 
 const PLACE: i64 = -3;
 
-// The generator's number; whether it is a tape that is damaged; what names mean; and the answers of each call so far.
-struct Trial {
-    seed: u64,
+// How long what is damaged is, and whether it is a tape; the generator's number; what names mean; and the answers of each call so far.
+pub struct Trial {
+    pub length: usize,
     is_tape: bool,
+    seed: u64,
     table: SymbolTable,
     form: Tally,
     expression: Tally,
     value: Tally,
+}
+
+impl Trial {
+    // Of another length.
+    pub fn with_length(mut self, length: usize) -> Trial {
+        self.length = length;
+        self
+    }
+
+    // Of a tape, or of an expression.
+    pub fn of_kind(mut self, is_tape: bool) -> Trial {
+        self.is_tape = is_tape;
+        self
+    }
+}
+
+// Before all answers.
+pub fn begun() -> Trial {
+    Trial {
+        length: 0,
+        is_tape: false,
+        seed: SEED,
+        table: names(),
+        form: tally::new(),
+        expression: tally::new(),
+        value: tally::new(),
+    }
 }
 
 // A table with three names: 1 with a number, below it 2 with one and 3 without.
@@ -56,8 +77,9 @@ fn asked(trial: Trial, bytes: &[u8], damage: Damage) -> Trial {
     let expressions = trial.expression;
     let values = trial.value;
     Trial {
-        seed: draft::next(trial.seed),
+        length: trial.length,
         is_tape: trial.is_tape,
+        seed: dice::next(trial.seed),
         table,
         form: forms.with(form.number, may_form),
         expression: expressions.with(alone.number, may_alone),
@@ -105,8 +127,8 @@ fn change_little(trial: Trial, bytes: &mut [u8], at: usize) -> Trial {
 // Asks with flags, with any kind and with any byte at an offset.
 fn change_kind(trial: Trial, bytes: &mut [u8], at: usize) -> Trial {
     let one = change(trial, bytes, at, FLAGS);
-    let two = change(one, bytes, at, draft::kind(one.seed));
-    change(two, bytes, at, draft::dice(two.seed))
+    let two = change(one, bytes, at, dice::kind(one.seed));
+    change(two, bytes, at, dice::dice(two.seed))
 }
 
 // Asks with five other bytes at every offset.
@@ -123,81 +145,26 @@ fn change_all(trial: Trial, bytes: &mut [u8]) -> Trial {
 }
 
 // Asks about something sound, and about it damaged.
-fn damage(trial: Trial, bytes: &mut [u8]) -> Trial {
+fn damage_all(trial: Trial, bytes: &mut [u8]) -> Trial {
     let whole = asked(trial, bytes, Damage::Nothing);
     let cut = cut(whole, bytes);
     change_all(cut, bytes)
 }
 
-// The same of the first so many bytes.
-fn damage_first(trial: Trial, room: &mut [u8], count: usize) -> Trial {
+// The same of as many bytes as it has.
+pub fn damage(trial: Trial, room: &mut [u8]) -> Trial {
+    let count = trial.length;
     if room.len() < count {
         return trial;
     }
-    damage(trial, &mut room[0..count])
+    damage_all(trial, &mut room[0..count])
 }
 
-// An expression.
-fn try_expression(trial: Trial, room: &mut [u8]) -> Trial {
-    let made = draft::put_expression(room, draft::begun(trial.seed), RECORDS);
-    let mut begun = trial;
-    begun.is_tape = false;
-    damage_first(begun, room, made.at)
-}
-
-// A tape.
-fn try_tape(trial: Trial, room: &mut [u8]) -> Trial {
-    let made = draft::put_tape(room, draft::begun(trial.seed), STATEMENTS);
-    let mut begun = trial;
-    begun.is_tape = true;
-    damage_first(begun, room, made.at)
-}
-
-// An expression as deep as it may be.
-fn try_deep(trial: Trial, room: &mut [u8]) -> Trial {
-    let made = draft::put_deep(room, draft::begun(trial.seed));
-    let mut begun = trial;
-    begun.is_tape = false;
-    damage_first(begun, room, made.at)
-}
-
-// A tape with it.
-fn try_deep_tape(trial: Trial, room: &mut [u8]) -> Trial {
-    let made = draft::put_deep_tape(room, draft::begun(trial.seed));
-    let mut begun = trial;
-    begun.is_tape = true;
-    damage_first(begun, room, made.at)
-}
-
-// Expressions and tapes by turns.
-fn try_all(trial: Trial, room: &mut [u8]) -> Trial {
-    let mut after = trial;
-    let mut left = DRAFTS;
-    while left > 0 {
-        after = try_expression(after, room);
-        after = try_tape(after, room);
-        left -= 1;
-    }
-    after
-}
-
-// Tries them, and prints the counts.
-pub fn run() {
-    let begun = Trial {
-        seed: 6502,
-        is_tape: false,
-        table: names(),
-        form: tally::new(),
-        expression: tally::new(),
-        value: tally::new(),
-    };
-    let mut room = [0u8; ROOM];
-    let deep = try_deep(begun, &mut room);
-    let deep_tape = try_deep_tape(deep, &mut room);
-    let after = try_all(deep_tape, &mut room);
-    let forms = after.form;
-    let expressions = after.expression;
-    let values = after.value;
+// Prints the counts.
+pub fn print(trial: Trial) {
+    let forms = trial.form;
+    let expressions = trial.expression;
+    let values = trial.value;
     tally::print_tally(b"form", forms);
     tally::print_tally(b"expression_form", expressions);
     tally::print_tally(b"evaluate", values);

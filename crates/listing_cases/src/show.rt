@@ -1,10 +1,7 @@
-// How cases are printed.
+// How tapes are listed, and cases printed.
 use crate::part;
 use libc::STDOUT_FILENO;
 use listing::Listed;
-
-// Where a tape is built, unless a case says otherwise.
-pub const INITIAL: usize = 0x2000;
 
 // How many bytes of a tape are printed at most.
 const MOST: usize = 16;
@@ -48,17 +45,17 @@ fn print_tape(tape: &[u8]) {
     print(b" bytes");
 }
 
-// Prints the words of a case, and its tape.
-pub fn print_head(words: &[u8], tape: &[u8]) {
-    print(words);
+// Prints the name of a case, which its line has from that word on, and its tape.
+pub fn print_head(line: &[u8], from: usize, tape: &[u8]) {
+    print(script::words_from(line, from));
     print(b" |");
     print_tape(tape);
     print(b" |");
 }
 
 // Lists a tape into a text of the right length.
-pub fn list(room: &mut [u8], tape: &[u8], initial: usize) -> Listed {
-    listing::list(tape, initial, part::lend(room, listing::TEXT))
+pub fn list(text: &mut [u8], tape: &[u8], initial: usize) -> Listed {
+    listing::list(tape, initial, part::lend(text, listing::TEXT))
 }
 
 // How long the text is: nothing where there is none.
@@ -70,21 +67,21 @@ pub fn length(listed: Listed) -> usize {
 }
 
 // Prints the listing of a tape.
-fn print_listing(room: &mut [u8], tape: &[u8], initial: usize) {
-    let listed = list(room, tape, initial);
-    print(page::cut(room, length(listed)));
+fn print_listing(line: &[u8], tape: &[u8], text: &mut [u8]) {
+    let listed = list(text, tape, script::number(line, 1));
+    print(page::cut(text, length(listed)));
 }
 
-// A case whose listing is one line, which stands behind the tape.
-pub fn line(room: &mut [u8], words: &[u8], tape: &[u8], initial: usize) {
-    print_head(words, tape);
+// A case whose listing is one line, which stands behind the tape: PLACE NAME.
+pub fn line(line: &[u8], tape: &[u8], text: &mut [u8]) {
+    print_head(line, 2, tape);
     print(b" ");
-    print_listing(room, tape, initial);
+    print_listing(line, tape, text);
 }
 
-// A case whose listing has several lines, which stand below.
-pub fn lines(room: &mut [u8], words: &[u8], tape: &[u8], initial: usize) {
-    print_head(words, tape);
+// A case whose listing has several lines, which stand below: PLACE NAME.
+pub fn lines(line: &[u8], tape: &[u8], text: &mut [u8]) {
+    print_head(line, 2, tape);
     print(b"\n");
-    print_listing(room, tape, initial);
+    print_listing(line, tape, text);
 }

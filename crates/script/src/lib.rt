@@ -1,0 +1,276 @@
+// Case files: text of which each line is a command and its words. A program asks for a line by its number, and for its words, and lays the
+// bytes that a line has in hexadecimal into lent memory. Total: what is not there is empty, or 0.
+use tape::LABEL;
+ghost use mathlib.Core.Path.{_≡_};
+ghost use Prim.Native.Nat.{_≤_};
+ghost use lib.Dec.{eqb};
+ghost use lib.ListN.{length};
+ghost use Rattle.refusals.specs.Answer.{pick};
+ghost use Rattle.page.specs.Page.{laid, repeated, bytesIn};
+ghost use Rattle.script.specs.Parts.{until, from, starts};
+ghost use Rattle.script.specs.Words.{linesIn, lineOf, wordsIn, wordOf, wordsFrom};
+ghost use Rattle.script.specs.Numbers.{withDigit, withLetter, numberIn, numberOf};
+ghost use Rattle.script.specs.Commands.{same, isCommand, isSilent, isTape};
+ghost use Rattle.script.specs.Tapes.{bytesOf, labelOf, labelsBehind, tapeAfter};
+ghost use Rattle.script.specs.Steps.{Next};
+
+// What stands between two lines, and between two words.
+const LINE_FEED: u8 = b'\n';
+
+const BLANK: u8 = b' ';
+
+// What a comment begins with.
+const COMMENT: u8 = b'#';
+
+// 1 where a part begins, which is behind a mark; else 0.
+fn start(before: u8, mark: u8) -> usize
+    ensures { λ r. ⌜ r ≡ pick (eqb before mark) 1 0 ⌝ }
+{
+    if before == mark { 1 } else { 0 }
+}
+
+// How many parts begin in a text: one at its first byte, and one at each byte behind a mark.
+fn parts(text: &[u8], mark: u8) -> usize
+    ensures { λ r. ⌜ r ≡ starts mark mark (now (text .entry)) ⌝ }
+{
+    let mut count = 0;
+    let mut before = mark;
+    let mut i = 0;
+    while i < text.len() {
+        count += start(before, mark);
+        before = text[i];
+        i += 1;
+    }
+    count
+}
+
+// The offset behind the first mark from an offset on; the end where there is none.
+fn next(text: &[u8], mark: u8, begin: usize) -> usize
+    requires { ⌜ begin ≤ length (now text) ⌝ }
+    ensures { λ r. ⌜ Next (now (text .entry)) mark begin r ⌝ }
+{
+    let mut at = begin;
+    while at < text.len() {
+        if text[at] == mark {
+            return at + 1;
+        }
+        at += 1;
+    }
+    at
+}
+
+// What stands behind so many marks.
+fn behind(text: &[u8], mark: u8, count: usize) -> &[u8]
+    ensures { λ r. ⌜ now r ≡ from mark count (now (text .entry)) ⌝ }
+{
+    let mut at = 0;
+    let mut left = count;
+    while left > 0 {
+        at = next(text, mark, at);
+        left -= 1;
+    }
+    &text[at..]
+}
+
+// How many bytes stand before the first mark.
+fn length_before(text: &[u8], mark: u8) -> usize
+    ensures { λ r. ⌜ r ≡ length (until mark (now (text .entry))) ⌝ }
+{
+    let mut i = 0;
+    while i < text.len() {
+        if text[i] == mark {
+            return i;
+        }
+        i += 1;
+    }
+    i
+}
+
+// What stands before the first mark.
+fn before(text: &[u8], mark: u8) -> &[u8]
+    ensures { λ r. ⌜ now r ≡ until mark (now (text .entry)) ⌝ }
+{
+    page::cut(text, length_before(text, mark))
+}
+
+// How many lines a text has.
+pub fn lines(text: &[u8]) -> usize
+    ensures { λ r. ⌜ r ≡ linesIn (now (text .entry)) ⌝ }
+{
+    parts(text, LINE_FEED)
+}
+
+// The line of that number, from 0 on.
+pub fn line(text: &[u8], number: usize) -> &[u8]
+    ensures { λ r. ⌜ now r ≡ lineOf number (now (text .entry)) ⌝ }
+{
+    before(behind(text, LINE_FEED, number), LINE_FEED)
+}
+
+// How many words a line has.
+pub fn words(line: &[u8]) -> usize
+    ensures { λ r. ⌜ r ≡ wordsIn (now (line .entry)) ⌝ }
+{
+    parts(line, BLANK)
+}
+
+// The word of that number, from 0 on.
+pub fn word(line: &[u8], number: usize) -> &[u8]
+    ensures { λ r. ⌜ now r ≡ wordOf number (now (line .entry)) ⌝ }
+{
+    before(behind(line, BLANK, number), BLANK)
+}
+
+// The words from that number on.
+pub fn words_from(line: &[u8], number: usize) -> &[u8]
+    ensures { λ r. ⌜ now r ≡ wordsFrom number (now (line .entry)) ⌝ }
+{
+    behind(line, BLANK, number)
+}
+
+// A number with one digit more; the greatest where that is greater.
+fn with_digit(number: usize, digit: usize) -> usize
+    requires { ⌜ digit ≤ 9 ⌝ }
+    ensures { λ r. ⌜ r ≡ withDigit number digit ⌝ }
+{
+    if (usize::MAX - digit) / 10 < number {
+        return usize::MAX;
+    }
+    10 * number + digit
+}
+
+// A number with one letter more; what is no digit is left out.
+fn with_letter(number: usize, letter: u8) -> usize
+    ensures { λ r. ⌜ r ≡ withLetter number letter ⌝ }
+{
+    match letter {
+        b'0'..=b'9' => with_digit(number, (letter - b'0') as usize),
+        _ => number,
+    }
+}
+
+// The number of a word.
+fn number_in(word: &[u8]) -> usize
+    ensures { λ r. ⌜ r ≡ numberIn 0 (now (word .entry)) ⌝ }
+{
+    let mut number = 0;
+    let mut i = 0;
+    while i < word.len() {
+        number = with_letter(number, word[i]);
+        i += 1;
+    }
+    number
+}
+
+// The number that the word of that number has.
+pub fn number(line: &[u8], index: usize) -> usize
+    ensures { λ r. ⌜ r ≡ numberOf index (now (line .entry)) ⌝ }
+{
+    number_in(word(line, index))
+}
+
+// Whether two texts are the same.
+fn is_same(one: &[u8], other: &[u8]) -> bool
+    ensures { λ r. ⌜ r ≡ same (now (one .entry)) (now (other .entry)) ⌝ }
+{
+    if one.len() != other.len() {
+        return false;
+    }
+    let mut i = 0;
+    while i < one.len() {
+        if one[i] != other[i] {
+            return false;
+        }
+        i += 1;
+    }
+    true
+}
+
+// Whether a line has this command.
+pub fn is_command(line: &[u8], command: &[u8]) -> bool
+    ensures { λ r. ⌜ r ≡ isCommand (now (line .entry)) (now (command .entry)) ⌝ }
+{
+    is_same(word(line, 0), command)
+}
+
+// Whether a line asks for nothing: it is empty or a comment.
+pub fn is_silent(line: &[u8]) -> bool
+    ensures { λ r. ⌜ r ≡ isSilent (now (line .entry)) ⌝ }
+{
+    if line.len() == 0 {
+        return true;
+    }
+    line[0] == COMMENT
+}
+
+// Lays the bytes of a text so often.
+fn put_times(room: &mut [u8], begin: usize, text: &[u8], times: usize) -> usize
+    ensures { λ r. ⌜ (r, now (room .exit)) ≡ laid (now (room .entry)) begin (repeated times (bytesIn (now (text .entry)))) ⌝ }
+{
+    let mut at = begin;
+    let mut left = times;
+    while left > 0 {
+        at = page::put_hex(room, at, text);
+        left -= 1;
+    }
+    at
+}
+
+// Lays the bytes that a line has behind its command.
+pub fn put_bytes(room: &mut [u8], at: usize, line: &[u8]) -> usize
+    ensures { λ r. ⌜ (r, now (room .exit)) ≡ laid (now (room .entry)) at (bytesOf (now (line .entry))) ⌝ }
+{
+    if is_same(word(line, 2), b"x") {
+        return put_times(room, at, words_from(line, 3), number(line, 1));
+    }
+    page::put_hex(room, at, words_from(line, 1))
+}
+
+// Lays a label.
+fn put_label(room: &mut [u8], at: usize, id: usize) -> usize
+    ensures { λ r. ⌜ (r, now (room .exit)) ≡ laid (now (room .entry)) at (labelOf id) ⌝ }
+{
+    page::put_all(room, at, &[LABEL, (id % 256) as u8, (id / 256 % 256) as u8])
+}
+
+// Lays labels from 1 to the last.
+fn put_labels(room: &mut [u8], begin: usize, last: usize) -> usize
+    ensures { λ r. ⌜ (r, now (room .exit)) ≡ laid (now (room .entry)) begin (labelsBehind 0 last) ⌝ }
+{
+    let mut at = begin;
+    let mut id = 0;
+    while id < last {
+        id += 1;
+        at = put_label(room, at, id);
+    }
+    at
+}
+
+// Whether a line makes a tape.
+pub fn is_tape(line: &[u8]) -> bool
+    ensures { λ r. ⌜ r ≡ isTape (now (line .entry)) ⌝ }
+{
+    if is_command(line, b"tape") {
+        return true;
+    }
+    if is_command(line, b"more") {
+        return true;
+    }
+    is_command(line, b"labels")
+}
+
+// Makes a tape, as a line says: `tape` begins it anew, `more` and `labels` go on behind its length.
+pub fn put_tape(room: &mut [u8], length: usize, line: &[u8]) -> usize
+    ensures { λ r. ⌜ (r, now (room .exit)) ≡ tapeAfter (now (room .entry)) length (now (line .entry)) ⌝ }
+{
+    if is_command(line, b"tape") {
+        return put_bytes(room, 0, line);
+    }
+    if is_command(line, b"more") {
+        return put_bytes(room, length, line);
+    }
+    if is_command(line, b"labels") {
+        return put_labels(room, length, number(line, 1));
+    }
+    length
+}
