@@ -51,20 +51,20 @@ fn fill(tape: &[u8], initial: usize, text: &mut [u8]) -> usize
     if SIZE < initial {
         return lines::put_refused(text, 0, ARGUMENT, 0);
     }
-    fill_names(tape, initial, text)
+    let mut nodes = [0u16; SIZE];
+    fill_names(tape, initial, text, &mut nodes)
 }
 
-// Form and names.
-fn fill_names(tape: &[u8], initial: usize, text: &mut [u8]) -> usize
-    requires { ⌜ (length (now tape) ≤ maxTape) × (initial ≤ size) ⌝ }
+// Form and names; the nodes that names resolve to are noted.
+fn fill_names(tape: &[u8], initial: usize, text: &mut [u8], nodes: &mut [u16]) -> usize
+    requires { ⌜ (length (now tape) ≤ maxTape) × (initial ≤ size) × (length (now nodes) ≡ maxTape) ⌝ }
     ensures { λ r. ⌜ (r, now (text .exit)) ≡ laid (now (text .entry)) 0 (said (listed (now (tape .entry)) (origin initial))) ⌝ }
 {
-    let mut nodes = [0u16; SIZE];
-    let declared = names::declare(tape, &mut nodes);
+    let declared = names::declare(tape, nodes);
     let answer = declared.answer;
     match answer {
         OutcomeAt::Refused { number, at } => lines::put_refused(text, 0, number, at),
-        OutcomeAt::Done => fill_settled(tape, &nodes, initial, text),
+        OutcomeAt::Done => fill_settled(tape, nodes, initial, text),
     }
 }
 

@@ -5,9 +5,9 @@ use Prim.Native.String.{String}
 use mathlib.Core.List.{List, map}
 use lib.ListN.{getD}
 use Rattle.opcodes.specs.Manual.{Mnemonic, mnemonics}
-use Rattle.opcodes.specs.Manual.{ADC, AND, ASL, BCC, BCS, BEQ, BIT, BMI, BNE, BPL, BRK, BVC, BVS, CLC, CLD, CLI, CLV, CMP, CPX, CPY, DEC, DEX}
-use Rattle.opcodes.specs.Manual.{DEY, EOR, INC, INX, INY, JMP, JSR, LDA, LDX, LDY, LSR, NOP, ORA, PHA, PHP, PLA, PLP, ROL, ROR, RTI, RTS, SBC}
-use Rattle.opcodes.specs.Manual.{SEC, SED, SEI, STA, STX, STY, TAX, TAY, TSX, TXA, TXS, TYA}
+use Rattle.opcodes.specs.Manual.{ADC, AND, ASL, BCC, BCS, BEQ, BIT, BMI, BNE, BPL, BRK, BVC, BVS, CLC, CLD, CLI, CLV, CMP, CPX}
+use Rattle.opcodes.specs.Manual.{CPY, DEC, DEX, DEY, EOR, INC, INX, INY, JMP, JSR, LDA, LDX, LDY, LSR, NOP, ORA, PHA, PHP, PLA}
+use Rattle.opcodes.specs.Manual.{PLP, ROL, ROR, RTI, RTS, SBC, SEC, SED, SEI, STA, STX, STY, TAX, TAY, TSX, TXA, TXS, TYA}
 
 -- the three letters of a mnemonic
 abbrev pub letters : Mnemonic → String

@@ -34,9 +34,11 @@ loop-less c = omega arith
 
 loop-again : tie.Need-loop-again Inv-loop μ-loop
 loop-again c =
-    let turn = c .before .before .before .before .before in (
-      c .before .text .given ∙ turn .before .loop .inv .0,
-      goes-on _ _ _ _ (turn .before .loop .inv .1) _ _ (next-spaced _ _ (turn .loop-test .taken)) _ _ (c .before .before .put-byte .ensures),
+    let put = c .before .before in
+    let turn = put .before .before .before in
+    let so-far = turn .before .loop .inv in (
+      c .before .text .given ∙ so-far .0,
+      goes-on _ _ _ _ (so-far .1) _ _ (next-spaced _ _ (turn .loop-test .taken)) _ _ (put .put-byte .ensures),
     )
 
 same-length : tie.Need-same-length Inv-loop μ-loop

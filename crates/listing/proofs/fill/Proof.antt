@@ -1,13 +1,17 @@
 -- An argument out of its range is the refused line of a 1; else the listing. Assumes nothing.
+use mathlib.Core.Path.{sym}
+use Prim.Native.Nat.{ℕ}
+use lib.ListN.{length-replicate}
 use denote.Ref.{now}
 use borrow.Author.Needs.{needs}
 use Rattle.page.proofs.Laying.{laid-same}
+use Rattle.form.specs.Form.{maxTape}
 use Rattle.listing.proofs.Calls.{too-long, too-high, allowed}
 use Rattle.listing.proofs.fill.Statement.{statement}
 use Rattle.listing.proofs.fill.Tie as tie
 
 put-refused-requires : tie.Need-put-refused-requires
-put-refused-requires c κs = search needs
+put-refused-requires c κs = tt
 
 same-length : tie.Need-same-length
 same-length c = search needs
@@ -20,7 +24,7 @@ returns c =
     laid-same (now (args .text)) 0 _ (too-long (now (args .tape)) (args .initial) (tested .if1 .taken)) (put .put-refused .ensures)
 
 put-refused-requires-2 : tie.Need-put-refused-requires-2
-put-refused-requires-2 c κs = search needs
+put-refused-requires-2 c κs = tt
 
 same-length-2 : tie.Need-same-length-2
 same-length-2 c = search needs
@@ -33,16 +37,21 @@ returns-2 c =
     laid-same (now (args .text)) 0 _ (too-high (now (args .tape)) (args .initial) (tested .before .if1 .left) (tested .if2 .taken))
     (put .put-refused2 .ensures)
 
+slice-aggregate-fill-names : tie.Need-slice-aggregate-fill-names
+slice-aggregate-fill-names c = sym (length-replicate {A = ℕ} maxTape 0)
+
 fill-names-requires : tie.Need-fill-names-requires
-fill-names-requires c κs = search needs
+fill-names-requires c κs =
+    let tested = c .before .before in
+    (tested .before .if1 .left, tested .if2 .left, length-replicate {A = ℕ} maxTape 0)
 
 same-length-3 : tie.Need-same-length-3
 same-length-3 c = search needs
 
 returns-3 : tie.Need-returns-3
 returns-3 c =
-    let filled = c .before .before in
-    let tested = filled .before .before in
+    let filled = c .before .before .before in
+    let tested = filled .before .before .before in
     let args = tested .before .before .before .before .args in
     laid-same (now (args .text)) 0 _ (allowed (now (args .tape)) (args .initial) (tested .before .if1 .left) (tested .if2 .left))
     (filled .fill-names .ensures)
@@ -57,6 +66,7 @@ fill-spec =
     put-refused-requires-2
     same-length-2
     returns-2
+    slice-aggregate-fill-names
     fill-names-requires
     same-length-3
     returns-3)

@@ -64,7 +64,8 @@ returns-2 c =
     let xs = statements tape in
     let o = origin (args .initial) in
     let found = settled-after (told .answer2 .given .1) (Passes.settled reads xs o) (settled .settle .ensures ∙ ap left all) in
-    laid-same (now (args .text)) 0 _ (ap said (listed-after tape nodes (args .initial) (given .pre .0) (given .pre .1) (given .pre .2) found))
+    laid-same (now (args .text)) 0 _
+    (ap said (listed-after tape nodes (args .initial) (given .pre .0) (given .pre .1) (given .pre .2) found))
     (put .put-records .ensures)
 
 pub fill-settled-spec : {M : Type 1} → statement M
