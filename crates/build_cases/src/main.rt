@@ -45,8 +45,14 @@ fn ask(line: &[u8], tape: &[u8]) {
     if script::is_silent(line) {
         return;
     }
+    build(line, tape);
+    show::print(b"\n");
+}
+
+// The same, without the end of the line that is printed.
+fn build(line: &[u8], tape: &[u8]) {
     if script::is_command(line, b"build") {
-        return show::build(line, tape);
+        return memory::build(line, tape);
     }
     if script::is_command(line, b"left") {
         return memory::left(line, tape);
@@ -56,5 +62,4 @@ fn ask(line: &[u8], tape: &[u8]) {
     }
     show::print(b"not known: ");
     show::print(line);
-    show::print(b"\n");
 }

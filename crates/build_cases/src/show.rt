@@ -1,7 +1,6 @@
 // How answers are printed.
 use builder::Built;
 use libc::STDOUT_FILENO;
-use symbols::NODES;
 
 // How many numbers or bytes a line has at most.
 const MOST: usize = 16;
@@ -147,16 +146,4 @@ pub fn print_built(built: Built, image: &[u8], list: &[i64]) {
 pub fn print_name(line: &[u8], from: usize) {
     print(script::words_from(line, from));
     print(b": ");
-}
-
-// Builds the tape: PLACE NAME.
-pub fn build(line: &[u8], tape: &[u8]) {
-    let mut image = [0u8; builder::SIZE];
-    let mut list = [0i64; NODES];
-    let mut work = [0u16; builder::WORK];
-    print_name(line, 2);
-    let initial = script::number(line, 1);
-    let built = builder::build(tape, initial, &mut image, &mut list, &mut work);
-    print_built(built, &image, &list);
-    print(b"\n");
 }

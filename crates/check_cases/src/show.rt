@@ -39,6 +39,17 @@ fn print_line(line: &[u8], from: usize, answer: Checked) {
     print(b"\n");
 }
 
+// What the checker answers.
+fn checked<'a>(
+    tape: &'a [u8],
+    initial: usize,
+    numbers: &'a [i64],
+    start: usize,
+    bytes: &'a [u8],
+) -> Checked {
+    checker::check(tape, initial, numbers, start, bytes)
+}
+
 // Checks what is handed in with a tape: INITIAL START NAME.
 pub fn check<'a>(line: &[u8], tape: &'a [u8], numbers: &'a [i64], bytes: &'a [u8]) {
     let initial = script::number(line, 1);
@@ -71,19 +82,30 @@ fn build_and_check(tape: &[u8], initial: usize) -> Checked {
     let mut image = [0u8; builder::SIZE];
     let mut list = [0i64; NODES];
     let mut work = [0u16; builder::WORK];
-    match builder::build(tape, initial, &mut image, &mut list, &mut work) {
+    check_built(tape, initial, &mut image, &mut list, &mut work)
+}
+
+// The same in this memory.
+fn check_built(
+    tape: &[u8],
+    initial: usize,
+    image: &mut [u8],
+    list: &mut [i64],
+    work: &mut [u16],
+) -> Checked {
+    match builder::build(tape, initial, image, list, work) {
         Built::Refused { number, at } => Checked::Refused { number, at },
         Built::Finished {
             start,
             end,
             numbers,
             ..
-        } => checker::check(
+        } => checked(
             tape,
             initial,
-            hand::first(&list, numbers),
+            hand::first(list, numbers),
             start,
-            part(&image, start, end),
+            part(image, start, end),
         ),
     }
 }

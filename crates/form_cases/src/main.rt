@@ -70,8 +70,7 @@ fn expression(line: &[u8], bytes: &[u8]) {
     print_name(line, 1);
     print_outcome(form::expression_form(bytes));
     print(b", ");
-    print_value(evaluator::evaluate(bytes, SymbolTable::new(), 0, 0));
-    print(b"\n");
+    print_value(bytes, SymbolTable::new(), 0);
 }
 
 // What an expression gives: NODES SCOPE NAME.
@@ -80,8 +79,7 @@ fn value(line: &[u8], bytes: &[u8]) {
     table.nodes = script::number(line, 1);
     let scope = (script::number(line, 2) % 65536) as u16;
     print_name(line, 3);
-    print_value(evaluator::evaluate(bytes, table, scope, 0));
-    print(b"\n");
+    print_value(bytes, table, scope);
 }
 
 // Prints some words.
@@ -111,10 +109,11 @@ fn print_outcome(answer: OutcomeAt) {
     }
 }
 
-// Prints what evaluate answers.
-fn print_value(answer: Evaluated) {
-    match answer {
+// Prints what an expression gives in a scope, and ends the line.
+fn print_value(bytes: &[u8], table: SymbolTable, scope: u16) {
+    match evaluator::evaluate(bytes, table, scope, 0) {
         Evaluated::Number(_) => print(b"a number"),
         Evaluated::Refused { number, at } => print_refused(number, at),
     }
+    print(b"\n");
 }

@@ -60,7 +60,7 @@ pub fn sized(line: &[u8], tape: &[u8], text: &mut [u8]) {
     fill(text);
     show::print_head(line, 2, tape);
     show::print(b" ");
-    print_answer(listing::list(tape, INITIAL, part::lend(text, length)));
+    print_answer(show::list_into(text, length, tape, INITIAL));
     show::print(b", the text");
     print_state(text);
 }

@@ -55,7 +55,12 @@ pub fn print_head(line: &[u8], from: usize, tape: &[u8]) {
 
 // Lists a tape into a text of the right length.
 pub fn list(text: &mut [u8], tape: &[u8], initial: usize) -> Listed {
-    listing::list(tape, initial, part::lend(text, listing::TEXT))
+    list_into(text, listing::TEXT, tape, initial)
+}
+
+// Lists a tape into a text of this length.
+pub fn list_into(text: &mut [u8], length: usize, tape: &[u8], initial: usize) -> Listed {
+    listing::list(tape, initial, part::lend(text, length))
 }
 
 // How long the text is: nothing where there is none.

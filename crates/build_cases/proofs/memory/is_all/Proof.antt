@@ -6,10 +6,10 @@ use Rattle.build_cases.proofs.memory.is_all.Statement.{statement}
 use Rattle.build_cases.proofs.memory.is_all.Tie as tie
 
 abbrev Inv-loop : tie.InvT-loop
-Inv-loop bytes byte i₀ i = Unit {0}
+Inv-loop bytes from byte i₀ i = Unit {0}
 
 abbrev μ-loop : tie.MeasureT-loop
-μ-loop bytes byte i₀ i = length bytes - i
+μ-loop bytes from byte i₀ i = length bytes - i
 
 loop-holds : tie.Need-loop-holds Inv-loop μ-loop
 loop-holds c = tt

@@ -6,10 +6,10 @@ use Rattle.build_cases.proofs.memory.is_list_all.Statement.{statement}
 use Rattle.build_cases.proofs.memory.is_list_all.Tie as tie
 
 abbrev Inv-loop : tie.InvT-loop
-Inv-loop list number i₀ i = Unit {0}
+Inv-loop list from number i₀ i = Unit {0}
 
 abbrev μ-loop : tie.MeasureT-loop
-μ-loop list number i₀ i = length list - i
+μ-loop list from number i₀ i = length list - i
 
 loop-holds : tie.Need-loop-holds Inv-loop μ-loop
 loop-holds c = tt
