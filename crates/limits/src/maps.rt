@@ -58,16 +58,13 @@ fn small(scope: u32) -> Entry {
 fn print_map(name: &[u8], map: &mut [u32]) {
     print_name(name);
     print(b"  len", of_count(source_map::len(map)));
-    print(b"  entry 0", of_entry(source_map::entry_at(map, 0)));
+    print(b"  entry 0", entry_at(map, 0));
     print(
         b"  address",
         of_found(source_map::address_to_offset(map, 0)),
     );
-    print(b"  add", of_outcome(source_map::add(map, small(0))));
-    print(
-        b"  move",
-        of_outcome(source_map::move_offsets(map, 0, 1, 2)),
-    );
+    print(b"  add", added(map, small(0)));
+    print(b"  move", moved(map, 0, 1, 2));
     print(b"  clear", of_outcome(source_map::clear(map)));
 }
 
@@ -80,7 +77,7 @@ pub fn fill(line: &[u8], map: &mut [u32]) {
 fn filled(map: &mut [u32]) -> u8 {
     let mut i = 0;
     while i < ENTRIES {
-        let number = of_outcome(source_map::add(map, wide(i)));
+        let number = added(map, wide(i));
         if number != 0 {
             return number;
         }
@@ -99,20 +96,39 @@ fn wide(i: u32) -> Entry {
     }
 }
 
+// The number of an entry more.
+fn added(map: &mut [u32], entry: Entry) -> u8 {
+    of_outcome(source_map::add(map, entry))
+}
+
+// The number of an entry.
+fn entry_at(map: &[u32], index: usize) -> u8 {
+    of_entry(source_map::entry_at(map, index))
+}
+
+// The number of the entries of one scope moved to another.
+fn moved(map: &mut [u32], from: u32, to: u32, span: u32) -> u8 {
+    of_outcome(source_map::move_offsets(map, from, to, span))
+}
+
 // An entry more: SCOPE NAME.
 pub fn add(line: &[u8], map: &mut [u32]) {
-    let answer = source_map::add(map, small(number(line, 1)));
-    print(script::words_from(line, 2), of_outcome(answer));
+    print(
+        script::words_from(line, 2),
+        added(map, small(number(line, 1))),
+    );
 }
 
 // An entry: INDEX NAME.
 pub fn at(line: &[u8], map: &[u32]) {
-    let answer = source_map::entry_at(map, script::number(line, 1));
-    print(script::words_from(line, 2), of_entry(answer));
+    print(
+        script::words_from(line, 2),
+        entry_at(map, script::number(line, 1)),
+    );
 }
 
 // The entries of one scope moved to another: FROM TO NAME.
 pub fn shift(line: &[u8], map: &mut [u32]) {
-    let answer = source_map::move_offsets(map, number(line, 1), number(line, 2), 0);
-    print(script::words_from(line, 3), of_outcome(answer));
+    let answer = moved(map, number(line, 1), number(line, 2), 0);
+    print(script::words_from(line, 3), answer);
 }

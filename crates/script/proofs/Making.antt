@@ -26,7 +26,8 @@ module _ (line word : List ℕ) {r : Bool} (is : word ≡ wordOf 2 line) (tells 
   tested : {b : Bool} → r ≡ b → same (wordOf 2 line) times ≡ b
   tested h = ap (λ (l : List ℕ). same l times) (sym is) ∙ sym tells ∙ h
 
-  pub laid-often : r ≡ true → (memory : List ℕ) (at : ℕ) (text : List ℕ) (n : ℕ) {x : ℕ × List ℕ} → text ≡ wordsFrom 3 line → n ≡ numberOf 1 line
+  pub laid-often : r ≡ true → (memory : List ℕ) (at : ℕ) (text : List ℕ) (n : ℕ) {x : ℕ × List ℕ}
+      → text ≡ wordsFrom 3 line → n ≡ numberOf 1 line
       → x ≡ laid memory at (repeated n (bytesIn text)) → x ≡ laid memory at (bytesOf line)
   unfolding bytesOf
   laid-often h memory at text n from3 number e =

@@ -19,7 +19,7 @@ pub fn calls(line: &[u8], table: SymbolTable) {
     print_word(script::words_from(line, 3));
     writes(table, nx, id);
     found(b"  parent", table.parent(nx));
-    found(b"  child", table.child(nx, id));
+    child_of(b"  child", table, nx, id);
     reads(table, nx, &[id]);
 }
 
@@ -27,10 +27,10 @@ pub fn calls(line: &[u8], table: SymbolTable) {
 fn writes(table: SymbolTable, nx: u16, id: u16) {
     let path = [id];
     got(b"  get", table.get(nx));
-    made(b"  insert", table.insert(nx, id, Data::Unresolved));
+    insert(b"  insert", table, nx, id);
     done(b"  update_data", table.update_data(nx, Data::Number(1)));
-    done(b"  export of it from the root", table.export(nx, 0, &path));
-    done(b"  export of node 1 below it", table.export(1, nx, &path));
+    export(b"  export of it from the root", table, nx, 0, &path);
+    export(b"  export of node 1 below it", table, 1, nx, &path);
     made(b"  ensure_index", table.ensure_index(nx, &path));
 }
 
@@ -53,23 +53,24 @@ pub fn path_calls(line: &[u8], table: SymbolTable, path: &[u16]) {
 // Prints what ensure_index answers in the root, and what the name 5 is then.
 fn grows(table: SymbolTable, path: &[u16]) {
     let after = made(b"  ensure_index", table.ensure_index(0, path));
-    found(b"  child afterwards", after.child(0, 5));
+    child_of(b"  child afterwards", after, 0, 5);
 }
 
 // The same of an export.
 fn exports(table: SymbolTable, node: u16, path: &[u16]) {
-    let after = done(b"  export", table.export(node, 0, path));
-    found(b"  child afterwards", after.child(0, 5));
+    let after = export(b"  export", table, node, 0, path);
+    child_of(b"  child afterwards", after, 0, 5);
 }
 
 // How many nodes query_all lists from node 1, and what stands then at the places 0, 1, 2 and 1,023: PLACES NAME.
 pub fn list_of(line: &[u8], table: SymbolTable, path: &[u16]) {
     let places = script::number(line, 1);
     let mut list = [7u16; 1025];
-    if places <= 1025 {
-        let answer = table.query_all(1, path, &mut list[0..places]);
-        counted(script::words_from(line, 2), answer);
+    if 1025 < places {
+        return print_word(b"too long");
     }
+    let answer = table.query_all(1, path, &mut list[0..places]);
+    counted(script::words_from(line, 2), answer);
     place(b"  place 0", list[0]);
     place(b"  place 1", list[1]);
     place(b"  place 2", list[2]);
@@ -82,40 +83,59 @@ fn place(question: &[u8], number: u16) {
     print_number(number as u64);
 }
 
+// Prints an insert; hands back the table.
+fn insert(question: &[u8], table: SymbolTable, nx: u16, id: u16) -> SymbolTable {
+    made(question, table.insert(nx, id, Data::Unresolved))
+}
+
+// Prints an export; hands back the table.
+fn export(
+    question: &[u8],
+    table: SymbolTable,
+    node: u16,
+    parent: u16,
+    path: &[u16],
+) -> SymbolTable {
+    done(question, table.export(node, parent, path))
+}
+
+// Prints the child of a node.
+fn child_of(question: &[u8], table: SymbolTable, nx: u16, id: u16) {
+    found(question, table.child(nx, id));
+}
+
 // An export, and which node is the next then; hands back the table: NODE PARENT NAME.
 pub fn exported(line: &[u8], table: SymbolTable, path: &[u16]) -> SymbolTable {
-    let changed = table.export(id(line, 1), id(line, 2), path);
-    let after = done(script::words_from(line, 3), changed);
-    made(b"  insert afterwards", after.insert(0, 9, Data::Unresolved));
+    let after = tried(line, table, path);
+    insert(b"  insert afterwards", after, 0, 9);
     after
+}
+
+// An export alone: NODE PARENT NAME.
+pub fn tried(line: &[u8], table: SymbolTable, path: &[u16]) -> SymbolTable {
+    export(
+        script::words_from(line, 3),
+        table,
+        id(line, 1),
+        id(line, 2),
+        path,
+    )
 }
 
 // An insert; hands back the table: NODE ID NAME.
 pub fn inserted(line: &[u8], table: SymbolTable) -> SymbolTable {
-    let inserted = table.insert(id(line, 1), id(line, 2), Data::Unresolved);
-    made(script::words_from(line, 3), inserted)
+    insert(script::words_from(line, 3), table, id(line, 1), id(line, 2))
 }
 
 // The child of a node: NODE ID NAME.
 pub fn child(line: &[u8], table: SymbolTable) {
-    found(
-        script::words_from(line, 3),
-        table.child(id(line, 1), id(line, 2)),
-    );
-}
-
-// An export alone: NODE PARENT NAME.
-pub fn tried(line: &[u8], table: SymbolTable, path: &[u16]) {
-    done(
-        script::words_from(line, 3),
-        table.export(id(line, 1), id(line, 2), path),
-    );
+    child_of(script::words_from(line, 3), table, id(line, 1), id(line, 2));
 }
 
 // What calls answer that need none, one and two new nodes: NAME.
 pub fn room(line: &[u8], table: SymbolTable) {
     print_word(script::words_from(line, 1));
-    made(b"  insert", table.insert(0, 5, Data::Unresolved));
+    insert(b"  insert", table, 0, 5);
     new_nodes(b" no new node", table, 0, 1);
     new_nodes(b" one new node", table, 1, 2);
     new_nodes(b" two new nodes", table, 2, 3);

@@ -98,7 +98,8 @@ fn ask_once(line: &[u8], table: SymbolTable, path: &[u16]) {
         return asks::child(line, table);
     }
     if script::is_command(line, b"try") {
-        return asks::tried(line, table, path);
+        asks::tried(line, table, path);
+        return;
     }
     if script::is_command(line, b"reads") {
         return asks::reads(table, id(line, 1), path);

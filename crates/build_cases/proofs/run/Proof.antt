@@ -1,5 +1,5 @@
 -- `run` is safe and ends: each turn leaves fewer lines. The loop keeps the lengths. Assumes nothing.
-use mathlib.Core.Path.{_≡_, refl}
+use mathlib.Core.Path.{_≡_}
 use Prim.Native.Nat.{_-_}
 use native.Mathlib.Omega.{arith}
 use borrow.Author.Needs.{needs}

@@ -1,7 +1,6 @@
 -- Texts of one length are the same if what is left of them is. Assumes nothing.
 use Prim.Native.Nat.{_-_, _≤_, _<_}
 use mathlib.Core.Path.{_≡_, refl, sym, _∙_}
-use Prim.Native.Nat.{_-_, _≤_}
 use lib.ListN.{length, drop}
 use Rattle.script.specs.Commands.{same}
 use Rattle.script.proofs.Sameness.{other-length, other-byte, same-byte, same-end}

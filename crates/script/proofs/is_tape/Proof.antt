@@ -42,7 +42,13 @@ returns-3 c =
     let none = second .before .before in
     let first = none .before in
     let line = first .before .before .before .args .line .now in
-    tape-third line (first .is-command .ensures) (none .if1 .left) (second .is-command2 .ensures) (neither .if2 .left) (c .is-command3 .ensures)
+    tape-third
+    line
+    (first .is-command .ensures)
+    (none .if1 .left)
+    (second .is-command2 .ensures)
+    (neither .if2 .left)
+    (c .is-command3 .ensures)
 
 pub is-tape-spec : {M : Type 1} → statement M
 is-tape-spec =

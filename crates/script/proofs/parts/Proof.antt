@@ -2,7 +2,6 @@
 use mathlib.Core.Path.{_≡_}
 use Prim.Native.Nat.{_+_, _-_, _≤_}
 use native.Mathlib.Omega.{arith}
-use lib.Dec.{eqb}
 use lib.ListN.{length, drop}
 use Rattle.script.specs.Parts.{starts}
 use Rattle.script.proofs.Scans.{starts-more, starts-end, one-at-most}

@@ -1,5 +1,4 @@
 -- A byte is the mark, or not. Assumes nothing.
-use Prim.Native.Nat.{ℕ}
 use borrow.Author.Tests.{eq-eqb, ne-eqb}
 use Rattle.refusals.proofs.Pick.{at-true, at-false}
 use Rattle.script.proofs.start.Statement.{statement}

@@ -19,11 +19,8 @@ loop-holds c = search needs
 wide-requires : tie.Need-wide-requires Inv-loop μ-loop
 wide-requires c κs = tt
 
-add-requires : tie.Need-add-requires Inv-loop μ-loop
-add-requires c κs = tt
-
-of-outcome-requires : tie.Need-of-outcome-requires Inv-loop μ-loop
-of-outcome-requires c κs = tt
+added-requires : tie.Need-added-requires Inv-loop μ-loop
+added-requires c κs = tt
 
 same-length : tie.Need-same-length Inv-loop μ-loop
 same-length c = search needs
@@ -54,8 +51,7 @@ filled-spec =
     μ-loop
     loop-holds
     wide-requires
-    add-requires
-    of-outcome-requires
+    added-requires
     same-length
     returns
     add-i
