@@ -197,4 +197,3 @@ fn leads_elsewhere(edge: Edge, s: u16, x: u16, to: u16) -> bool
     }
     edge.to != to
 }
-

@@ -117,7 +117,6 @@ deepest-node es n s (x ∷ path) ok l = go (λ c. deepest-node es n c path ok) (
     go ih none e = rw e l
     go ih (some c) e = rw e (ih c (fit-child es n s x c ok e))
 
-
 -- a table with the node s: the chain of the deepest node below s ends at the root
 pub deepest-ends : (n k : ℕ) (links : List ℕ) (s : ℕ) (path : List ℕ) → isNodeIn n k (edgesIn links k) s ≡ true
     → {t : There} → t ≡ thereOf (held links k) s path → Ends (held links k) (t .node)

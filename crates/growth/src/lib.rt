@@ -69,7 +69,14 @@ pub fn may_ensure(links: &[u16; WORDS], n: usize, nodes: usize, nx: u16, path: &
 }
 
 // Whether a table takes another name for a node: an edge to it from the end of a path.
-pub fn may_export(links: &[u16; WORDS], n: usize, nodes: usize, node: u16, above: u16, path: &[u16]) -> Growth
+pub fn may_export(
+    links: &[u16; WORDS],
+    n: usize,
+    nodes: usize,
+    node: u16,
+    above: u16,
+    path: &[u16],
+) -> Growth
     ensures { λ r. ⌜ saysGrowth r ≡ mayExport nodes n (edgesIn (now (links .entry)) n) node above (now (path .entry))
         (thereOf (edgesIn (now (links .entry)) n) above (front (now (path .entry)))) ⌝ }
 {

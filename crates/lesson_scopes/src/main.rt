@@ -1,8 +1,8 @@
 // A lesson on names: which node a name means where an inner and an outer scope both have it. A station has a gate, and the gate
 // asks. What is printed is to be read aloud.
 use libc::STDOUT_FILENO;
-use symbols::Data;
 use scopes::Found;
+use symbols::Data;
 use symbols::Node;
 use symbols::SymbolTable;
 

@@ -7,10 +7,10 @@
 use libc::STDIN_FILENO;
 use libc::STDOUT_FILENO;
 use refusals::Outcome;
-use symbols::Changed;
 use scopes::Count;
-use symbols::Data;
 use scopes::Found;
+use symbols::Changed;
+use symbols::Data;
 use symbols::Got;
 use symbols::Inserted;
 use symbols::Node;

@@ -55,11 +55,18 @@ pub fn query(links: &[u16; WORDS], n: usize, nodes: usize, nx: u16, path: &[u16]
 }
 
 // The nodes that a path means in a scope and in each scope around it, and how many they are.
-pub fn query_all(links: &[u16; WORDS], n: usize, nodes: usize, nx: u16, path: &[u16], list: &mut [u16]) -> Count
+pub fn query_all(
+    links: &[u16; WORDS],
+    n: usize,
+    nodes: usize,
+    nx: u16,
+    path: &[u16],
+    list: &mut [u16],
+) -> Count
     ensures { λ r. ⌜ (saysCount r ≡ mapped length
-            (queryAllIn nodes n (edgesIn (now (links .entry)) n) nx (now (path .entry)) (length (now (list .entry)))))
+        (queryAllIn nodes n (edgesIn (now (links .entry)) n) nx (now (path .entry)) (length (now (list .entry)))))
         × (now (list .exit) ≡ listAfter (now (list .entry))
-            (queryAllIn nodes n (edgesIn (now (links .entry)) n) nx (now (path .entry)) (length (now (list .entry))))) ⌝ }
+        (queryAllIn nodes n (edgesIn (now (links .entry)) n) nx (now (path .entry)) (length (now (list .entry))))) ⌝ }
 {
     if !is_node(links, n, nodes, nx) {
         return Count::Refused(ARGUMENT);

@@ -69,4 +69,3 @@ module _ (es : List Edge) (s : ℕ) (r : rooted es s ≡ true) where
 
   pub chain-falls : {p : ℕ} → parentOf es 0 ≡ none → parentOf es s ≡ some p → length (chain es p) < length (chain es s)
   chain-falls top e = omega (arith, ap (λ (l : List ℕ). length l) (chain-rest top e .1))
-

@@ -1,9 +1,9 @@
 // How questions and answers are printed.
 use libc::STDOUT_FILENO;
 use refusals::Outcome;
-use symbols::Changed;
 use scopes::Count;
 use scopes::Found;
+use symbols::Changed;
 use symbols::Got;
 use symbols::Inserted;
 use symbols::Node;
