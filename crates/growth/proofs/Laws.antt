@@ -9,7 +9,7 @@ use lib.Dec.{eqb, leb, ltb}
 use lib.ListN.{length, take}
 use lib.Seq.{length-take-le}
 use borrow.Author.Tests.{eq-eqb, ne-eqb, le-leb, lt-leb, leb-true, leb-false, le-ltb, lt-ltb, ltb-true}
-use Rattle.refusals.specs.Answer.{Answer, Done, Refused, pick, mapped}
+use Rattle.refusals.specs.Answer.{Done, Refused, pick, mapped}
 use Rattle.refusals.specs.Table.{argument, noRoom, nameTaken, loop}
 use Rattle.refusals.proofs.Pick.{at-true, at-false}
 use Rattle.edges.specs.declared.Edge.{Edge}

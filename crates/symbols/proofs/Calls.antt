@@ -1,5 +1,5 @@
 -- What the tests of a call say, and which answer the definitions give behind them. Assumes nothing.
-use mathlib.Core.Bool.{Bool, true, _&&_, and-eq-true-iff}
+use mathlib.Core.Bool.{true, _&&_, and-eq-true-iff}
 use mathlib.Core.Path.{_≡_, sym, ap, _∙_}
 use mathlib.Core.List.{List, [], _∷_}
 use mathlib.Core.Option.{Option, none}
@@ -16,7 +16,7 @@ use Rattle.refusals.specs.Table.{argument, noRoom, nameTaken, loop}
 use Rattle.refusals.proofs.Pick.{done-passed, done-missed, done-value}
 use Rattle.edges.specs.declared.There.{There}
 use Rattle.edges.specs.Edges.{has, chain, deepest, thereOf, taken}
-use Rattle.edges.proofs.Laws.{there-few, there-missing, there-rest}
+use Rattle.edges.proofs.Laws.{there-few, there-rest}
 use Rattle.growth.specs.Growth.{isName, isNewPath, room, ofRoom, front, lastId, mayInsert, mayEnsure, mayExport, exportFrom}
 use Rattle.growth.proofs.Laws.{path-few, room-has, insert-other, ensure-other, export-other}
 use Rattle.symbols.specs.declared.SymbolTable.{SymbolTable}

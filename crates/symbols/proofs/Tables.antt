@@ -1,6 +1,6 @@
 -- What the small steps of a call make of a table: numbers, a node more, an edge more. Assumes nothing.
 use mathlib.Core.Bool.{Bool, true, false}
-use mathlib.Core.Path.{_≡_, refl, sym, ap, _∙_}
+use mathlib.Core.Path.{_≡_, refl, ap, _∙_}
 use mathlib.Core.List.{List}
 use mathlib.Core.Option.{Option, none, some}
 use Prim.Native.Nat.{ℕ, suc, _+_, _*_, _-_, _<_, _≤_}
@@ -10,7 +10,6 @@ use lib.IntN.{ℤ, pos}
 use lib.ListN.{length, getD, set, drop}
 use lib.Seq.{drop-cons}
 use Rattle.symbols.specs.declared.SymbolTable.{SymbolTable}
-use Rattle.growth.specs.Growth.{room}
 use Rattle.symbols.specs.Symbols.{numberAt, isKnown, numberOr0, withData, withEdge, withNode, inserted, grown}
 use Rattle.edges.proofs.Laws.{at-end, three-stores}
 

@@ -1,7 +1,6 @@
 -- How much is there of the path is how much is there of its rest, from here. Assumes nothing.
 use mathlib.Core.Path.{_≡_, refl, sym, _∙_}
 use Prim.Native.Nat.{_≤_, _-_}
-use native.Mathlib.Omega.{arith}
 use lib.ListN.{length, drop}
 use Rattle.edges.specs.Edges.{deepest, held}
 use Rattle.edges.proofs.Laws as laws
