@@ -1,24 +1,24 @@
 -- Two runs of bytes, compared; and a start before them. Assumes nothing.
-use mathlib.Core.Bool.{true, false, _&&_, not-eq-not}
-use mathlib.Core.List.{List}
-use mathlib.Core.Path.{_≡_, refl, sym, ap, _∙_}
+use mathlib.Core.Bool.{Bool, true, false, _&&_}
+use mathlib.Core.List.{List, [], _∷_}
+use mathlib.Core.Path.{_≡_, refl, ap}
 use Prim.Native.Nat.{ℕ}
 use lib.Dec.{eqb}
-use borrow.Author.Tests.{eq-eqb, ne-eqb, eqb-true}
+use borrow.Author.Tests.{eq-eqb, ne-eqb}
 use Rattle.refusals.specs.Answer.{pick}
 use Rattle.refusals.specs.AnswerAt.{AnswerAt, Fine, Fault}
 use Rattle.refusals.specs.Table.{bytesDiffer}
+use Rattle.page.specs.Page as bytes
 use Rattle.walk.specs.Values.{same}
-use Rattle.walk.proofs.Equal.{same-true, same-same}
 
 -- ---- bytes
 
-module _ (a b : List ℕ) where
-  pub alike : a ≡ b → true ≡ same eqb a b
-  alike e = sym (same-same eqb (λ n. eq-eqb n n refl) a) ∙ ap (same eqb a) e
-
-  pub apart : (a ≡ b → ⊥) → false ≡ same eqb a b
-  apart h = sym (not-eq-not {b = false} .0 (λ e. h (same-true eqb eqb-true a b e)))
+-- the comparison of bytes is that of lists, by the test of numbers
+pub as-lists : (a b : List ℕ) → bytes.same a b ≡ same eqb a b
+as-lists [] [] = refl
+as-lists [] (y ∷ ys) = refl
+as-lists (x ∷ xs) [] = refl
+as-lists (x ∷ xs) (y ∷ ys) = ap (λ (r : Bool). eqb x y && r) (as-lists xs ys)
 
 -- ---- the start s where f is written, and the bytes a where b is
 

@@ -177,26 +177,9 @@ fn judge<'a>(image: &'a [u8], first: usize, end: usize, start: usize, bytes: &'a
     if start != first {
         return refused(BYTES_DIFFER, 0);
     }
-    if same(bytes, &image[first..end]) {
+    if page::is_same(bytes, &image[first..end]) {
         Checked::Accepted
     } else {
         refused(BYTES_DIFFER, 0)
     }
-}
-
-// Whether two runs of bytes are equal.
-fn same<'a>(a: &'a [u8], b: &'a [u8]) -> bool
-    ensures { λ r. ⌜ r ≡ same eqb (now (a .entry)) (now (b .entry)) ⌝ }
-{
-    if a.len() != b.len() {
-        return false;
-    }
-    let mut i: usize = 0;
-    while i < a.len() {
-        if a[i] != b[i] {
-            return false;
-        }
-        i += 1;
-    }
-    true
 }

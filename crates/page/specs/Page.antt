@@ -1,10 +1,10 @@
 -- Bytes that are laid one behind the other into lent memory, and tapes as document 01 writes them. Assumes nothing: these are
 -- definitions.
 use Prim.Native.Nat.{ℕ, zero, suc, _+_, _-_, _*_}
-use mathlib.Core.Bool.{_&&_}
+use mathlib.Core.Bool.{Bool, true, false, _&&_}
 use mathlib.Core.List.{List, [], _∷_, _++_}
 use mathlib.Core.Option.{Option, none, some}
-use lib.Dec.{leb}
+use lib.Dec.{eqb, leb}
 use lib.ListN.{length, take}
 use Rattle.refusals.specs.Answer.{pick}
 use Rattle.refusals.specs.Memory.{over}
@@ -23,6 +23,15 @@ laid memory at bytes = (at + length (fitting memory at bytes), over memory at (f
 abbrev pub repeated : ℕ → List ℕ → List ℕ
 repeated zero bytes = []
 repeated (suc n) bytes = bytes ++ repeated n bytes
+
+-- ---- what is compared
+
+-- two runs of bytes, byte by byte
+abbrev pub same : List ℕ → List ℕ → Bool
+same [] [] = true
+same [] (d ∷ ds) = false
+same (c ∷ cs) [] = false
+same (c ∷ cs) (d ∷ ds) = eqb c d && same cs ds
 
 -- ---- tapes as text
 

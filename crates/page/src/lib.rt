@@ -3,7 +3,7 @@
 ghost use mathlib.Core.List.{[], _∷_};
 ghost use mathlib.Core.Path.{_≡_};
 ghost use lib.ListN.{take};
-ghost use Rattle.page.specs.Page.{laid, repeated, digitIn, pair, following, bytesIn};
+ghost use Rattle.page.specs.Page.{laid, repeated, same, digitIn, pair, following, bytesIn};
 ghost use Rattle.page.specs.Steps.{below16};
 
 // One byte.
@@ -98,4 +98,21 @@ pub fn cut(bytes: &[u8], count: usize) -> &[u8]
         return bytes;
     }
     &bytes[0..count]
+}
+
+// Whether two runs of bytes are the same.
+pub fn is_same(one: &[u8], other: &[u8]) -> bool
+    ensures { λ r. ⌜ r ≡ same (now (one .entry)) (now (other .entry)) ⌝ }
+{
+    if one.len() != other.len() {
+        return false;
+    }
+    let mut i = 0;
+    while i < one.len() {
+        if one[i] != other[i] {
+            return false;
+        }
+        i += 1;
+    }
+    true
 }

@@ -1,6 +1,6 @@
 -- Texts taken apart, numbers and tapes, and that each public call allows one answer.
 pub mod Scans
 pub mod Numerals
-pub mod Sameness
+pub mod Silence
 pub mod Making
 pub mod Unique

@@ -5,10 +5,10 @@ use mathlib.Core.Path.{_≡_, refl, sym, ap, _∙_}
 use Prim.Native.Nat.{ℕ, suc, _+_, _-_, _≤_, _<_}
 use native.Mathlib.Omega.{arith}
 use Rattle.refusals.proofs.Pick.{at-true, at-false}
-use Rattle.page.specs.Page.{laid, repeated, bytesIn}
+use Rattle.page.specs.Page.{laid, repeated, bytesIn, same}
 use Rattle.script.specs.Words.{wordOf, wordsFrom}
 use Rattle.script.specs.Numbers.{numberOf}
-use Rattle.script.specs.Commands.{same, isCommand, isTape, tapeAnew, moreBytes, moreLabels}
+use Rattle.script.specs.Commands.{isCommand, isTape, tapeAnew, moreBytes, moreLabels}
 use Rattle.script.specs.Tapes.{times, bytesOf, labelOf, labelsBehind, tapeAfter}
 
 -- ---- labels

@@ -1,16 +1,10 @@
 -- What a line begins with. Assumes nothing: these are definitions.
 use Prim.Native.Nat.{ℕ}
-use mathlib.Core.Bool.{Bool, true, false, _&&_, _||_}
+use mathlib.Core.Bool.{Bool, true, _||_}
 use mathlib.Core.List.{List, [], _∷_}
 use lib.Dec.{eqb}
+use Rattle.page.specs.Page.{same}
 use Rattle.script.specs.Words.{wordOf}
-
--- two texts, byte by byte
-abbrev pub same : List ℕ → List ℕ → Bool
-same [] [] = true
-same [] (d ∷ ds) = false
-same (c ∷ cs) [] = false
-same (c ∷ cs) (d ∷ ds) = eqb c d && same cs ds
 
 -- the first word of a line is its command
 abbrev pub isCommand : List ℕ → List ℕ → Bool

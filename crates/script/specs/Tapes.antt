@@ -3,10 +3,10 @@ use Prim.Native.Nat.{ℕ, zero, suc, _+_, _/_, _%_}
 use mathlib.Core.List.{List, [], _∷_, _++_}
 use Rattle.refusals.specs.Answer.{pick}
 use Rattle.tape.specs.Kinds.{label}
-use Rattle.page.specs.Page.{laid, repeated, bytesIn}
+use Rattle.page.specs.Page.{laid, repeated, same, bytesIn}
 use Rattle.script.specs.Words.{wordOf, wordsFrom}
 use Rattle.script.specs.Numbers.{numberOf}
-use Rattle.script.specs.Commands.{same, isCommand, tapeAnew, moreBytes, moreLabels}
+use Rattle.script.specs.Commands.{isCommand, tapeAnew, moreBytes, moreLabels}
 
 -- "x"
 abbrev pub times : List ℕ

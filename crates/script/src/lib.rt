@@ -10,7 +10,7 @@ ghost use Rattle.page.specs.Page.{laid, repeated, bytesIn};
 ghost use Rattle.script.specs.Parts.{until, from, starts};
 ghost use Rattle.script.specs.Words.{linesIn, lineOf, wordsIn, wordOf, wordsFrom};
 ghost use Rattle.script.specs.Numbers.{withDigit, withLetter, numberIn, numberOf};
-ghost use Rattle.script.specs.Commands.{same, isCommand, isSilent, isTape};
+ghost use Rattle.script.specs.Commands.{isCommand, isSilent, isTape};
 ghost use Rattle.script.specs.Tapes.{bytesOf, labelOf, labelsBehind, tapeAfter};
 ghost use Rattle.script.specs.Steps.{Next};
 
@@ -169,28 +169,11 @@ pub fn number(line: &[u8], index: usize) -> usize
     number_in(word(line, index))
 }
 
-// Whether two texts are the same.
-fn is_same(one: &[u8], other: &[u8]) -> bool
-    ensures { λ r. ⌜ r ≡ same (now (one .entry)) (now (other .entry)) ⌝ }
-{
-    if one.len() != other.len() {
-        return false;
-    }
-    let mut i = 0;
-    while i < one.len() {
-        if one[i] != other[i] {
-            return false;
-        }
-        i += 1;
-    }
-    true
-}
-
 // Whether a line has this command.
 pub fn is_command(line: &[u8], command: &[u8]) -> bool
     ensures { λ r. ⌜ r ≡ isCommand (now (line .entry)) (now (command .entry)) ⌝ }
 {
-    is_same(word(line, 0), command)
+    page::is_same(word(line, 0), command)
 }
 
 // Whether a line asks for nothing: it is empty or a comment.
@@ -220,7 +203,7 @@ fn put_times(room: &mut [u8], begin: usize, text: &[u8], times: usize) -> usize
 pub fn put_bytes(room: &mut [u8], at: usize, line: &[u8]) -> usize
     ensures { λ r. ⌜ (r, now (room .exit)) ≡ laid (now (room .entry)) at (bytesOf (now (line .entry))) ⌝ }
 {
-    if is_same(word(line, 2), b"x") {
+    if page::is_same(word(line, 2), b"x") {
         return put_times(room, at, words_from(line, 3), number(line, 1));
     }
     page::put_hex(room, at, words_from(line, 1))

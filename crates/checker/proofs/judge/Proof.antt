@@ -1,7 +1,7 @@
 -- The start, then the bytes. Assumes nothing.
 use mathlib.Core.Path.{sym, _∙_}
 use Rattle.checker.specs.Check.{covered}
-use Rattle.checker.proofs.Bytes.{start-differs, bytes-same, bytes-differ}
+use Rattle.checker.proofs.Bytes.{as-lists, start-differs, bytes-same, bytes-differ}
 use borrow.Author.Needs.{needs}
 use Rattle.checker.proofs.judge.Statement.{statement}
 use Rattle.checker.proofs.judge.Tie as tie
@@ -16,17 +16,17 @@ returns c =
     let written = covered (args .first) (args .end) (args .image .now) in
     c .refused .ensures ∙ start-differs (args .start) (args .first) (args .bytes .now) written (tested .if1 .taken)
 
-sub-same : tie.Need-sub-same
-sub-same c = search needs
+sub-is-same : tie.Need-sub-is-same
+sub-is-same c = search needs
 
-part-same-start : tie.Need-part-same-start
-part-same-start c = search needs
+part-is-same-start : tie.Need-part-is-same-start
+part-is-same-start c = search needs
 
-part-same-end : tie.Need-part-same-end
-part-same-end c = search needs
+part-is-same-end : tie.Need-part-is-same-end
+part-is-same-end c = search needs
 
-same-requires : tie.Need-same-requires
-same-requires c κs = search needs
+is-same-requires : tie.Need-is-same-requires
+is-same-requires c κs = search needs
 
 refused-requires-2 : tie.Need-refused-requires-2
 refused-requires-2 c κs = search needs
@@ -36,7 +36,8 @@ returns-2 c =
     let tested = c .before .before .before in
     let args = tested .before .before .before .args in
     let written = covered (args .first) (args .end) (args .image .now) in
-    bytes-same (args .start) (args .first) (args .bytes .now) written (tested .if1 .left) (sym (c .before .same .ensures) ∙ c .if2 .taken)
+    bytes-same (args .start) (args .first) (args .bytes .now) written (tested .if1 .left)
+    (sym (c .before .is-same .ensures ∙ as-lists (args .bytes .now) written) ∙ c .if2 .taken)
 
 returns-3 : tie.Need-returns-3
 returns-3 c =
@@ -46,7 +47,7 @@ returns-3 c =
     let written = covered (args .first) (args .end) (args .image .now) in
     c .refused2 .ensures
     ∙ bytes-differ (args .start) (args .first) (args .bytes .now) written (tested .if1 .left)
-    (sym (differs .before .same .ensures) ∙ differs .if2 .left)
+    (sym (differs .before .is-same .ensures ∙ as-lists (args .bytes .now) written) ∙ differs .if2 .left)
 
 pub judge-spec : {M : Type 1} → statement M
 judge-spec =
@@ -54,10 +55,10 @@ judge-spec =
     (tie.spec
     refused-requires
     returns
-    sub-same
-    part-same-start
-    part-same-end
-    same-requires
+    sub-is-same
+    part-is-same-start
+    part-is-same-end
+    is-same-requires
     refused-requires-2
     returns-2
     returns-3)

@@ -2,7 +2,7 @@
 use mathlib.Core.List.{List}
 use mathlib.Core.Path.{ap, _∙_}
 use Prim.Native.Nat.{ℕ}
-use Rattle.script.specs.Commands.{same}
+use Rattle.page.specs.Page.{same}
 use borrow.Author.Needs.{needs}
 use Rattle.script.proofs.is_command.Statement.{statement}
 use Rattle.script.proofs.is_command.Tie as tie

@@ -1,5 +1,5 @@
 -- An empty line, or its first byte. Assumes nothing.
-use Rattle.script.proofs.Sameness.{silent-empty, silent-first}
+use Rattle.script.proofs.Silence.{silent-empty, silent-first}
 use borrow.Author.Needs.{needs}
 use Rattle.script.proofs.is_silent.Statement.{statement}
 use Rattle.script.proofs.is_silent.Tie as tie

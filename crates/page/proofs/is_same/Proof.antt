@@ -2,11 +2,11 @@
 use Prim.Native.Nat.{_-_, _≤_, _<_}
 use mathlib.Core.Path.{_≡_, refl, sym, _∙_}
 use lib.ListN.{length, drop}
-use Rattle.script.specs.Commands.{same}
-use Rattle.script.proofs.Sameness.{other-length, other-byte, same-byte, same-end}
+use Rattle.page.specs.Page.{same}
+use Rattle.page.proofs.Sameness.{other-length, other-byte, same-byte, same-end}
 use native.Mathlib.Omega.{arith}
-use Rattle.script.proofs.is_same.Statement.{statement}
-use Rattle.script.proofs.is_same.Tie as tie
+use Rattle.page.proofs.is_same.Statement.{statement}
+use Rattle.page.proofs.is_same.Tie as tie
 
 abbrev Inv-loop : tie.InvT-loop
 Inv-loop one other i₀ i = same (drop i one) (drop i other) ≡ same one other

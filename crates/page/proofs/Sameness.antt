@@ -1,20 +1,19 @@
--- Two texts compared byte by byte. Assumes nothing.
+-- Two runs of bytes, compared byte by byte. Assumes nothing.
 use mathlib.Core.Bool.{Bool, true, false, _&&_}
 use mathlib.Core.List.{List, [], _∷_}
 use mathlib.Core.Path.{_≡_, refl, ap, _∙_}
 use Prim.Native.Nat.{ℕ, suc, _+_, _≤_, _<_}
-use native.Mathlib.Omega.{arith}
 use lib.Dec.{eqb}
 use lib.ListN.{length, getD, drop, drop-of-length-le}
 use borrow.Author.Tests.{eq-eqb, ne-eqb}
+use Rattle.page.specs.Page.{same}
 use Rattle.page.proofs.Rests.{next-byte}
-use Rattle.script.specs.Commands.{same, isSilent}
 
 and-false : (b : Bool) → b && false ≡ false
 and-false true = refl
 and-false false = refl
 
--- texts of other lengths differ
+-- runs of other lengths differ
 pub other-length : (xs ys : List ℕ) → (length xs ≡ length ys → ⊥) → same xs ys ≡ false
 other-length [] [] h = absurd (h refl)
 other-length [] (y ∷ ys) h = refl
@@ -41,13 +40,3 @@ module _ (xs ys : List ℕ) (i : ℕ) where
   same-end h g =
       ap (λ (l : List ℕ). same l (drop i ys)) (drop-of-length-le _ h)
       ∙ ap (same []) (drop-of-length-le _ g)
-
--- ---- a silent line
-
-pub silent-empty : (line : List ℕ) → length line ≡ 0 → true ≡ isSilent line
-silent-empty [] e = refl
-silent-empty (c ∷ cs) e = absurd (omega arith)
-
-pub silent-first : (line : List ℕ) → (length line ≡ 0 → ⊥) → eqb (getD line 0 0) 0x23 ≡ isSilent line
-silent-first [] h = absurd (h refl)
-silent-first (c ∷ cs) h = refl
