@@ -1,12 +1,12 @@
 -- A build by what is noted is the build by what query finds, and numbers that stand in arrays give the same build and the same list.
 -- Assumes nothing.
-use mathlib.Core.List.{List, [], _∷_, _++_, map}
+use mathlib.Core.List.{List, _∷_, map}
 use mathlib.Core.Option.{Option}
 use mathlib.Core.Path.{_≡_, refl, sym, ap, _∙_, subst}
-use Prim.Native.Nat.{ℕ, zero, suc, _-_, _≤_, _<_}
+use Prim.Native.Nat.{ℕ, _-_, _≤_, _<_}
 use native.Mathlib.Omega.{arith}
 use lib.IntN.{ℤ, pos}
-use lib.ListN.{length, getD, drop, replicate}
+use lib.ListN.{length, replicate}
 use borrow.Author.Tests.{lt-ltb}
 use Rattle.refusals.specs.AnswerAt.{AnswerAt, Fine, Fault, mapped, andThen}
 use Rattle.refusals.proofs.Never.{never}
@@ -14,10 +14,10 @@ use Rattle.refusals.proofs.Answers.{fine-value, fault-is}
 use Rattle.segment.specs.Segment.{size}
 use Rattle.symbols.specs.Symbols.{numberOr0}
 use Rattle.form.specs.Form.{maxTape}
-use Rattle.form.specs.Statements.{What, Instruction, Open, Close, Label, Constant, SetPlace, Byte, Word, Screen, Statement, statements}
+use Rattle.form.specs.Statements.{Statement, statements}
 use Rattle.evaluator.specs.Expression.{Value}
 use Rattle.walk.specs.declared.Numbers.{Numbers}
-use Rattle.walk.specs.Walk.{Origin, origin, namesIn}
+use Rattle.walk.specs.Walk.{Origin, origin}
 use Rattle.walk.specs.Values.{Values, numbered, declarations}
 use Rattle.walk.specs.Numbers.{filled, numbersBy, readsNoted}
 use Rattle.walk.proofs.Agrees.{Alike}
@@ -35,7 +35,8 @@ use Rattle.tries.specs.declared.Written.the-variants as written
 use Rattle.tries.specs.Tries.{Trying, start, tries}
 use Rattle.tries.specs.Write.{rangeOf, saysWritten, imageOr}
 use Rattle.tries.proofs.Agrees.{tries-alike}
-use Rattle.builder.specs.Build.{Build, builder, listed, numberList, finished, triedWith, builtBy}
+use Rattle.number_list.proofs.Kept.{list-zeros}
+use Rattle.builder.specs.Build.{Build, builder, finished, triedWith, builtBy}
 use Rattle.builder.specs.Call.{Report, report, Memory, memory, left}
 use Rattle.builder.specs.Steps.{imageFrom, listFrom, finishedIn, triedIn}
 
@@ -52,40 +53,6 @@ built-alike r s xs o h =
     go : (a : AnswerAt (ℕ × Values)) → andThen a (triedWith r xs o) ≡ andThen a (triedWith s xs o)
     go (Fine (n, L)) = ap (mapped (finished s xs o n L)) (tries-alike r s builder (numbered L) (start o) xs h)
     go (Fault n at) = refl
-
--- ---- zeros behind the numbers
-
-abbrev zeros : ℕ → List ℤ
-zeros k = replicate k (pos 0)
-
-first-of : (l : List ℤ) (k : ℕ) → getD (l ++ zeros k) 0 (pos 0) ≡ getD l 0 (pos 0)
-first-of [] zero = refl
-first-of [] (suc k) = refl
-first-of (a ∷ l) k = refl
-
-drop-one : (l : List ℤ) (k : ℕ) → (j : ℕ) × (drop 1 (l ++ zeros k) ≡ drop 1 l ++ zeros j)
-drop-one [] zero = (0, refl)
-drop-one [] (suc k) = (k, refl)
-drop-one (a ∷ l) k = (k, refl)
-
--- they change nothing: a number past the end is 0
-list-zeros : (xs : List Statement) (l : List ℤ) (k : ℕ) → numberList xs (l ++ zeros k) ≡ numberList xs l
-list-zeros [] l k = refl
-list-zeros (x ∷ xs) l k =
-    let d = drop-one l k in
-    go (x .says) (list-zeros xs l k) (ap (numberList xs) (d .1) ∙ list-zeros xs (drop 1 l) (d .0))
-  where
-    go : (w : What) → numberList xs (l ++ zeros k) ≡ numberList xs l → numberList xs (drop 1 (l ++ zeros k)) ≡ numberList xs (drop 1 l)
-        → listed w (l ++ zeros k) ++ numberList xs (drop (namesIn w) (l ++ zeros k)) ≡ listed w l ++ numberList xs (drop (namesIn w) l)
-    go (Label id) same on = λ i. first-of l k i ∷ on i
-    go (Constant id) same on = λ i. first-of l k i ∷ on i
-    go (Open id) same on = on
-    go Close same on = same
-    go (Instruction mnemonic mode suffix) same on = same
-    go SetPlace same on = same
-    go Byte same on = same
-    go Word same on = same
-    go (Screen petscii) same on = same
 
 -- ---- numbers that stand in arrays
 

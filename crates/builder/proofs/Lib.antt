@@ -1,6 +1,5 @@
--- The number list; what the crates below give each other; what a finished build has, and with which numbers one is refused; and that the
+-- What the crates below give each other; what a finished build has, and with which numbers one is refused; and that the
 -- call allows one answer.
-pub mod Lists
 pub mod Builds
 pub mod Names
 pub mod Kept

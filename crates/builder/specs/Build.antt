@@ -1,40 +1,21 @@
 -- The build of a tape. Document 01: form, names, then "Passes". Assumes nothing: these are definitions.
 use Prim.Native.Nat.{ℕ}
-use mathlib.Core.List.{List, [], _∷_, _++_, map}
+use mathlib.Core.List.{List, map}
 use mathlib.Core.Option.{Option}
-use lib.IntN.{ℤ, pos}
-use lib.ListN.{getD, drop}
+use lib.IntN.{ℤ}
 use Rattle.refusals.specs.AnswerAt.{AnswerAt, mapped, andThen}
 use Rattle.refusals.specs.Table.{moved}
 use Rattle.symbols.specs.Symbols.{numberOr0}
-use Rattle.form.specs.Statements.{What, Instruction, Open, Close, Label, Constant, SetPlace, Byte, Word, Screen, Statement, statements}
+use Rattle.form.specs.Statements.{Statement, statements}
 use Rattle.evaluator.specs.Expression.{Value}
 use Rattle.names.specs.Names.{namesOf}
-use Rattle.walk.specs.Walk.{Origin, namesIn}
+use Rattle.walk.specs.Walk.{Origin}
 use Rattle.walk.specs.Values.{Values, numbered}
 use Rattle.passes.specs.Passes.{settled}
 use Rattle.tries.specs.declared.Compares.{Compares}
 use Rattle.tries.specs.Tries.{Trying, start, tries}
+use Rattle.number_list.specs.Lists.{numberList}
 use Rattle.reads.specs.Reads.{readsOn}
-
--- ---- the number list
-
--- of the numbers from a statement's name on, those that go into the list: a label's and a constant's
-abbrev pub listed : What → List ℤ → List ℤ
-listed (Label id) l = getD l 0 (pos 0) ∷ []
-listed (Constant id) l = getD l 0 (pos 0) ∷ []
-listed (Open id) l = []
-listed Close l = []
-listed (Instruction mnemonic mode suffix) l = []
-listed SetPlace l = []
-listed Byte l = []
-listed Word l = []
-listed (Screen petscii) l = []
-
--- of the numbers of all names, in tape order: "Number lists are in tape order"
-abbrev pub numberList : List Statement → List ℤ → List ℤ
-numberList [] l = []
-numberList (x ∷ xs) l = listed (x .says) l ++ numberList xs (drop (namesIn (x .says)) l)
 
 -- ---- the build
 

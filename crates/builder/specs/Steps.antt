@@ -12,7 +12,8 @@ use Rattle.walk.specs.declared.Numbers.{Numbers}
 use Rattle.walk.specs.Walk.{Origin}
 use Rattle.walk.specs.Numbers.{filled, numbersIn}
 use Rattle.tries.specs.Tries.{Trying, start, tries}
-use Rattle.builder.specs.Build.{Build, builder, numberList}
+use Rattle.number_list.specs.Lists.{numberList}
+use Rattle.builder.specs.Build.{Build, builder}
 
 -- an image behind a build
 abbrev pub imageFrom : List ℕ → AnswerAt Build → List ℕ

@@ -9,21 +9,19 @@ use symbols::NODES;
 use tries::Compares;
 use tries::Written;
 use walk::Numbers;
-ghost use mathlib.Core.Bool.{true};
 ghost use mathlib.Core.Path.{_≡_};
 ghost use Prim.Native.Nat.{_+_, _≤_, _<_};
 ghost use lib.IntN.{pos};
-ghost use lib.ListN.{length, getD, set, drop, replicate};
-ghost use Rattle.refusals.specs.Answer.{pick};
+ghost use lib.ListN.{length, replicate};
 ghost use Rattle.refusals.specs.AnswerAt.{Fault, mapped};
 ghost use Rattle.segment.specs.Segment.{size};
 ghost use Rattle.edges.specs.Edges.{maxNodes};
-ghost use Rattle.form.specs.Form.{maxTape, isNumbered};
+ghost use Rattle.form.specs.Form.{maxTape};
 ghost use Rattle.form.specs.Statements.{statements};
 ghost use Rattle.walk.specs.Walk.{origin};
 ghost use Rattle.walk.specs.Values.{declarations};
-ghost use Rattle.walk.specs.Numbers.{filled, readsNoted};
-ghost use Rattle.builder.specs.Build.{numberList, builtBy, built};
+ghost use Rattle.walk.specs.Numbers.{readsNoted};
+ghost use Rattle.builder.specs.Build.{builtBy, built};
 ghost use Rattle.builder.specs.Call.{workPlaces, isAllowed, memory, buildOf, report, saysBuilt};
 ghost use Rattle.builder.specs.Steps.{imageFrom, listFrom, triedIn};
 
@@ -62,7 +60,7 @@ pub fn build(
     if !is_allowed(tape.len(), initial, image.len(), numbers.len(), work.len()) {
         return refused(ARGUMENT, 0);
     }
-    zero_list(numbers);
+    number_list::clear(numbers);
     let built = build_names(tape, initial, image, numbers, work);
     zero_work(work);
     built
@@ -92,17 +90,6 @@ fn refused(number: u8, at: usize) -> Built
     ensures { λ r. ⌜ saysBuilt r ≡ Fault number at ⌝ }
 {
     Built::Refused { number, at }
-}
-
-// Makes every number zero.
-fn zero_list(list: &mut [i64])
-    ensures { λ _. ⌜ now (list .exit) ≡ replicate (length (now (list .entry))) (pos 0) ⌝ }
-{
-    let mut i: usize = 0;
-    while i < list.len() {
-        list[i] = 0;
-        i += 1;
-    }
 }
 
 // Makes every place of the work memory zero.
@@ -187,7 +174,7 @@ fn build_tried<'a>(
     match tries::write(tape, nodes, numbers, initial, compares, image) {
         Written::Refused { number, at } => refused(number, at),
         Written::Range { start, end } => {
-            let count = fill_list(tape, &numbers.number, list);
+            let count = number_list::gather(tape, &numbers.number, list);
             Built::Finished {
                 start,
                 end,
@@ -196,45 +183,4 @@ fn build_tried<'a>(
             }
         }
     }
-}
-
-// Writes the numbers of labels and constants, in tape order, and gives how many they are.
-fn fill_list<'a>(tape: &'a [u8], number: &'a [i64; NODES], list: &mut [i64]) -> usize
-    requires { ⌜ (length (now tape) ≤ maxTape) × (now list ≡ replicate maxNodes (pos 0)) × (declarations (statements (now tape)) < maxNodes) ⌝ }
-    ensures { λ r. ⌜ (r ≡ length (numberList (statements (now (tape .entry))) (drop 1 (now (number .entry)))))
-        × (now (list .exit) ≡ filled maxNodes (pos 0) (numberList (statements (now (tape .entry))) (drop 1 (now (number .entry))))) ⌝ }
-{
-    let mut names: usize = 0;
-    let mut count: usize = 0;
-    let mut at: usize = 0;
-    while at < tape.len() {
-        let rec = tape::record(tape, at);
-        if form::is_last(rec) {
-            return count;
-        }
-        let kind = little::u8_at(rec, 0);
-        count = listed(kind, number, names, list, count);
-        names += form::names_in(kind);
-        at += rec.len();
-    }
-    count
-}
-
-// The list with one number more, where a record of this kind is a label or a constant; and how many it has then.
-fn listed<'a>(
-    kind: u8,
-    number: &'a [i64; NODES],
-    names: usize,
-    list: &mut [i64],
-    count: usize,
-) -> usize
-    requires { ⌜ (isNumbered kind ≡ true → names + 1 < maxNodes) × (count < length (now list)) ⌝ }
-    ensures { λ r. ⌜ (r ≡ pick (isNumbered kind) (count + 1) count)
-        × (now (list .exit) ≡ pick (isNumbered kind) (set (now (list .entry)) count (getD (now (number .entry)) (names + 1) (pos 0))) (now (list .entry))) ⌝ }
-{
-    if form::is_numbered(kind) {
-        list[count] = number[names + 1];
-        return count + 1;
-    }
-    count
 }

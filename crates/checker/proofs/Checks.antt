@@ -1,14 +1,14 @@
 -- Numbers that stand in arrays give the same check, and so do the notes of a tape's names; and what the tries answer, judged.
 -- Assumes nothing.
-use mathlib.Core.Bool.{Bool, true, _&&_, and-eq-true-iff}
-use mathlib.Core.List.{List, [], _∷_}
+use mathlib.Core.Bool.{true, _&&_, and-eq-true-iff}
+use mathlib.Core.List.{List}
 use mathlib.Core.Option.{Option}
 use mathlib.Core.Path.{_≡_, refl, sym, ap, _∙_}
 use Prim.Native.Nat.{ℕ, _≤_, _<_}
 use native.Mathlib.Omega.{arith}
 use lib.Dec.{eqb, leb}
 use lib.IntN.{ℤ}
-use lib.ListN.{length, drop, length-append}
+use lib.ListN.{length}
 use borrow.Author.Tests.{eq-eqb, ne-eqb, leb-true}
 use Rattle.refusals.specs.Answer.{pick}
 use Rattle.refusals.specs.AnswerAt.{AnswerAt, Fine, Fault, mapped, andThen}
@@ -18,11 +18,12 @@ use Rattle.refusals.proofs.Answers.{fault-is}
 use Rattle.segment.specs.Segment.{size}
 use Rattle.symbols.specs.declared.SymbolTable.{SymbolTable}
 use Rattle.form.specs.Form.{maxTape}
-use Rattle.form.specs.Statements.{What, Instruction, Open, Close, Label, Constant, SetPlace, Byte, Word, Screen, Statement, statements}
+use Rattle.form.specs.Statements.{Statement, statements}
 use Rattle.evaluator.specs.Expression.{Value}
 use Rattle.names.specs.Names.{namesOf, declareOf, notesAfter}
 use Rattle.names.proofs.Kept.{notes-are}
-use Rattle.walk.specs.Walk.{Origin, origin, namesIn}
+use Rattle.walk.specs.declared.Numbers.{Numbers}
+use Rattle.walk.specs.Walk.{Origin, origin}
 use Rattle.walk.specs.Values.{numbered, declarations, same}
 use Rattle.walk.specs.Numbers.{numbersIn, numbersBy, readsNoted}
 use Rattle.walk.proofs.Agrees.{Alike}
@@ -34,7 +35,9 @@ use Rattle.tries.proofs.Sound.{tries-sound}
 use Rattle.reads.specs.Reads.{readsOn}
 use Rattle.reads.proofs.Names.{declare-is}
 use Rattle.reads.proofs.Reading.{all-alike}
-use Rattle.checker.specs.Check.{counts, count, valued, valuesOf, checker, covered, isWritten, judged, checkedBy, checked}
+use Rattle.number_list.specs.Lists.{count, valuesOf}
+use Rattle.number_list.proofs.Kept.{values-length}
+use Rattle.checker.specs.Check.{checker, covered, isWritten, judged, checkedBy, checked}
 use Rattle.checker.specs.Call.{isAllowed}
 
 -- ---- arguments
@@ -57,25 +60,6 @@ allowed t i s b e =
       start = leb-true s size (y .1);
       bytes = leb-true b size (x .1);
     }
-
--- ---- each name has one value
-
-pub valued-length : (x : What) (l : List ℤ) → length (valued x l) ≡ namesIn x
-valued-length (Label id) l = refl
-valued-length (Constant id) l = refl
-valued-length (Open id) l = refl
-valued-length Close l = refl
-valued-length (Instruction mnemonic mode suffix) l = refl
-valued-length SetPlace l = refl
-valued-length Byte l = refl
-valued-length Word l = refl
-valued-length (Screen petscii) l = refl
-
-pub values-length : (xs : List Statement) (l : List ℤ) → length (valuesOf xs l) ≡ declarations xs
-values-length [] l = refl
-values-length (x ∷ xs) l =
-    let rest = drop (counts (x .says)) l in
-    omega (arith, length-append (valued (x .says) l) (valuesOf xs rest), valued-length (x .says) l, values-length xs rest)
 
 -- ---- the check of a tape whose names have been resolved
 
@@ -106,18 +90,18 @@ module _ (tape nodes : List ℕ) (initial : ℕ) (numbers : List ℤ) (from : �
     numbers-fit e = rw (eq-eqb (length numbers) (count xs) (sym e ∙ n-is))
 
   -- the numbers stand in arrays, and a and image′ are what the tries with them give
-  module _ (asked : (length tape ≤ maxTape) × (initial ≤ size) × (declarations xs < 1024)) {n : ℕ} {known : List Bool} {number : List ℤ}
-      (spread : (n ≡ count xs) × (known ≡ numbersBy (valuesOf xs numbers) .known) × (number ≡ numbersBy (valuesOf xs numbers) .number))
+  module _ (asked : (length tape ≤ maxTape) × (initial ≤ size) × (declarations xs < 1024)) {n : ℕ} {held : Numbers}
+      (spread : (n ≡ count xs) × (held ≡ numbersBy (valuesOf xs numbers)))
       (image : List ℕ) (whole : length image ≡ size) {a : AnswerAt (ℕ × ℕ)} {image′ : List ℕ}
-      (told : (a ≡ mapped rangeOf (writeOf tape nodes (record { known = known; number = number }) initial checker (length image)))
-      × (image′ ≡ imageOr image (writeOf tape nodes (record { known = known; number = number }) initial checker (length image)))) where
-    by-arrays : writeOf tape nodes (record { known = known; number = number }) initial checker (length image) ≡ all-tried
+      (told : (a ≡ mapped rangeOf (writeOf tape nodes held initial checker (length image)))
+      × (image′ ≡ imageOr image (writeOf tape nodes held initial checker (length image)))) where
+    by-arrays : writeOf tape nodes held initial checker (length image) ≡ all-tried
     unfolding triedAll
     by-arrays =
         let short : length (valuesOf xs numbers) < 1024 = omega (arith, asked .2, values-length xs numbers) in
         write-allowed tape nodes _ initial checker (asked .0) (asked .1) whole
         ∙ ap (λ (f : ℕ → Option ℤ). tries (readsNoted tape nodes) checker f (start (origin initial)) xs)
-        ((λ i. numbersIn (spread .1 i) (spread .2 i)) ∙ by-node (valuesOf xs numbers) short)
+        (ap (λ (h : Numbers). numbersIn (h .known) (h .number)) (spread .1) ∙ by-node (valuesOf xs numbers) short)
 
     answer : a ≡ mapped rangeOf all-tried
     answer = told .0 ∙ ap (mapped rangeOf) by-arrays

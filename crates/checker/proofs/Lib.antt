@@ -1,7 +1,6 @@
--- Start and bytes, compared; the number list, spread; what the crates below give each other; with which numbers a check is refused; and
+-- Start and bytes, compared; what the crates below give each other; with which numbers a check is refused; and
 -- that the call allows one answer.
 pub mod Bytes
-pub mod Spreading
 pub mod Checks
 pub mod Refusals
 pub mod Unique

@@ -27,7 +27,8 @@ use Rattle.tries.specs.Tries.{Trying, tries}
 use Rattle.tries.proofs.Numbers.{tries-number}
 use Rattle.reads.specs.Reads.{readsOn}
 use Rattle.reads.proofs.Numbers.{computes}
-use Rattle.checker.specs.Check.{count, valuesOf, checker, isWritten, judged, checkedBy, checked}
+use Rattle.number_list.specs.Lists.{count, valuesOf}
+use Rattle.checker.specs.Check.{checker, isWritten, judged, checkedBy, checked}
 use Rattle.checker.specs.Refusals.{refusals}
 use Rattle.checker.specs.Call.{isAllowed, checkOf}
 use Rattle.checker.proofs.Checks.{allowed}

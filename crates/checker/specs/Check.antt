@@ -1,61 +1,26 @@
 -- The check of numbers, a start and bytes against a tape. Document 01: "After form and names the checker refuses a list of the wrong
 -- length (17 at 0), then tries records the same way, with 17, for a constant's number too, in place of 13, then compares start, length
 -- and bytes (18 at 0)." Assumes nothing: these are definitions.
-use Prim.Native.Nat.{ℕ, _+_, _-_}
+use Prim.Native.Nat.{ℕ, _-_}
 use mathlib.Core.Bool.{Bool, _&&_}
-use mathlib.Core.List.{List, [], _∷_, _++_}
-use mathlib.Core.Option.{Option, none, some}
+use mathlib.Core.List.{List}
+use mathlib.Core.Option.{Option}
 use lib.Dec.{eqb}
-use lib.IntN.{ℤ, pos}
-use lib.ListN.{length, getD, take, drop}
+use lib.IntN.{ℤ}
+use lib.ListN.{length, take, drop}
 use Rattle.refusals.specs.Answer.{pick}
 use Rattle.refusals.specs.AnswerAt.{AnswerAt, Fine, Fault, andThen}
 use Rattle.refusals.specs.Table.{numberDiffers, bytesDiffer}
-use Rattle.form.specs.Statements.{What, Instruction, Open, Close, Label, Constant, SetPlace, Byte, Word, Screen, Statement, statements}
+use Rattle.form.specs.Statements.{Statement, statements}
 use Rattle.evaluator.specs.Expression.{Value}
 use Rattle.names.specs.Names.{namesOf}
 use Rattle.walk.specs.Walk.{Origin}
-use Rattle.walk.specs.Values.{Values, numbered, same}
+use Rattle.walk.specs.Values.{numbered, same}
 use Rattle.tries.specs.declared.Compares.{Compares}
 use Rattle.tries.specs.Tries as T
 use Rattle.tries.specs.Tries.{Trying, tries}
+use Rattle.number_list.specs.Lists.{count, valuesOf}
 use Rattle.reads.specs.Reads.{readsOn}
-
--- ---- the number list
-
--- how many numbers a list has for a statement: one for a label, and one for a constant
-abbrev pub counts : What → ℕ
-counts (Label id) = 1
-counts (Constant id) = 1
-counts (Open id) = 0
-counts Close = 0
-counts (Instruction mnemonic mode suffix) = 0
-counts SetPlace = 0
-counts Byte = 0
-counts Word = 0
-counts (Screen petscii) = 0
-
--- and for all of them
-abbrev pub count : List Statement → ℕ
-count [] = 0
-count (x ∷ xs) = counts (x .says) + count xs
-
--- of the numbers from a statement on, what its name has: a label or a constant the first of them, a scope none
-abbrev pub valued : What → List ℤ → Values
-valued (Label id) l = some (getD l 0 (pos 0)) ∷ []
-valued (Constant id) l = some (getD l 0 (pos 0)) ∷ []
-valued (Open id) l = none ∷ []
-valued Close l = []
-valued (Instruction mnemonic mode suffix) l = []
-valued SetPlace l = []
-valued Byte l = []
-valued Word l = []
-valued (Screen petscii) l = []
-
--- what each name has, by a list: "Number lists are in tape order"
-abbrev pub valuesOf : List Statement → List ℤ → Values
-valuesOf [] l = []
-valuesOf (x ∷ xs) l = valued (x .says) l ++ valuesOf xs (drop (counts (x .says)) l)
 
 -- ---- the check
 

@@ -2,4 +2,3 @@
 pub mod Check
 pub mod Refusals
 pub mod Call
-pub mod Steps

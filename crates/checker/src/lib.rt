@@ -5,29 +5,25 @@ use refusals::ARGUMENT;
 use refusals::BYTES_DIFFER;
 use refusals::NUMBER_DIFFERS;
 use refusals::OutcomeAt;
-use symbols::NODES;
 use tries::Compares;
 use tries::Written;
-use walk::Numbers;
-ghost use mathlib.Core.Bool.{true, false, _&&_};
+ghost use mathlib.Core.Bool.{_&&_};
 ghost use mathlib.Core.Path.{_≡_};
-ghost use Prim.Native.Nat.{_+_, _≤_, _<_};
+ghost use Prim.Native.Nat.{_≤_, _<_};
 ghost use lib.Dec.{eqb};
-ghost use lib.IntN.{pos};
-ghost use lib.ListN.{length, getD, replicate};
+ghost use lib.ListN.{length};
 ghost use Rattle.refusals.specs.Answer.{pick};
 ghost use Rattle.refusals.specs.AnswerAt.{Fine, Fault};
 ghost use Rattle.refusals.specs.Table.{bytesDiffer};
 ghost use Rattle.segment.specs.Segment.{size};
 ghost use Rattle.edges.specs.Edges.{maxNodes};
-ghost use Rattle.form.specs.Form.{maxTape, isNumbered};
+ghost use Rattle.form.specs.Form.{maxTape};
 ghost use Rattle.form.specs.Statements.{statements};
 ghost use Rattle.walk.specs.Walk.{origin};
 ghost use Rattle.walk.specs.Values.{declarations, same};
-ghost use Rattle.walk.specs.Numbers.{numbersBy, readsNoted};
-ghost use Rattle.checker.specs.Check.{count, valuesOf, covered, checkedBy};
+ghost use Rattle.walk.specs.Numbers.{readsNoted};
+ghost use Rattle.checker.specs.Check.{covered, checkedBy};
 ghost use Rattle.checker.specs.Call.{isAllowed, checkOf, saysChecked};
-ghost use Rattle.checker.specs.Steps.{putIn};
 
 // How many bytes an image has; also the greatest place.
 const SIZE: usize = 65536;
@@ -97,75 +93,20 @@ fn check_numbers<'a>(
         ≡ checkedBy (readsNoted (now (tape .entry)) (now (nodes .entry))) (statements (now (tape .entry))) (origin initial)
         (now (numbers .entry)) start (now (bytes .entry)) ⌝ }
 {
-    let mut known = [false; NODES];
-    let mut number = [0i64; NODES];
-    let count = spread(tape, numbers, &mut known, &mut number);
-    if count != numbers.len() {
+    let spread = number_list::spread(tape, numbers);
+    if spread.count != numbers.len() {
         return refused(NUMBER_DIFFERS, 0);
     }
     let compares = Compares {
         label: NUMBER_DIFFERS,
         constant: NUMBER_DIFFERS,
     };
-    let by_node = Numbers { known, number };
+    let by_node = spread.numbers;
     let mut image = [0u8; SIZE];
     match tries::write(tape, nodes, by_node, initial, compares, &mut image) {
-        Written::Refused { number: n, at } => refused(n, at),
+        Written::Refused { number, at } => refused(number, at),
         Written::Range { start: first, end } => judge(&image, first, end, start, bytes),
     }
-}
-
-// Puts each number of a list at the node of its label or constant, and gives how many a list has for this tape.
-fn spread<'a>(tape: &'a [u8], list: &'a [i64], known: &mut [bool], number: &mut [i64]) -> usize
-    requires { ⌜ (length (now tape) ≤ maxTape) × (declarations (statements (now tape)) < maxNodes)
-        × (now known ≡ replicate maxNodes false) × (now number ≡ replicate maxNodes (pos 0)) ⌝ }
-    ensures { λ r. ⌜ (r ≡ count (statements (now (tape .entry))))
-        × (now (known .exit) ≡ numbersBy (valuesOf (statements (now (tape .entry))) (now (list .entry))) .known)
-        × (now (number .exit) ≡ numbersBy (valuesOf (statements (now (tape .entry))) (now (list .entry))) .number) ⌝ }
-{
-    let mut names: usize = 0;
-    let mut count: usize = 0;
-    let mut at: usize = 0;
-    while at < tape.len() {
-        let rec = tape::record(tape, at);
-        if form::is_last(rec) {
-            return count;
-        }
-        let kind = little::u8_at(rec, 0);
-        count = put(kind, list, names, count, known, number);
-        names += form::names_in(kind);
-        at += rec.len();
-    }
-    count
-}
-
-// Puts the next number of a list at the next node, where a record of this kind has one; and gives how many were put then.
-fn put(
-    kind: u8,
-    list: &[i64],
-    names: usize,
-    count: usize,
-    known: &mut [bool],
-    number: &mut [i64],
-) -> usize
-    requires { ⌜ (isNumbered kind ≡ true → (names + 1 < length (now known)) × (names + 1 < length (now number))) × (count < size) ⌝ }
-    ensures { λ r. ⌜ (r ≡ pick (isNumbered kind) (count + 1) count)
-        × (now (known .exit) ≡ putIn (now (known .entry)) names kind true)
-        × (now (number .exit) ≡ putIn (now (number .entry)) names kind (getD (now (list .entry)) count (pos 0))) ⌝ }
-{
-    if form::is_numbered(kind) {
-        known[names + 1] = true;
-        number[names + 1] = number_at(list, count);
-        return count + 1;
-    }
-    count
-}
-
-// The number of that index in a list, or 0 past its end.
-fn number_at(list: &[i64], i: usize) -> i64
-    ensures { λ r. ⌜ r ≡ getD (now (list .entry)) i (pos 0) ⌝ }
-{
-    if i < list.len() { list[i] } else { 0 }
 }
 
 // Start, length and bytes against what is written: the image from `first` to `end`.

@@ -31,7 +31,8 @@ use Rattle.tries.specs.Tries as T
 use Rattle.tries.specs.Tries.{Trying, tries}
 use Rattle.tries.proofs.Sound.{tries-sound}
 use Rattle.reads.specs.Reads.{readsOn}
-use Rattle.builder.specs.Build.{Build, builder, numberList, built}
+use Rattle.number_list.specs.Lists.{numberList}
+use Rattle.builder.specs.Build.{Build, builder, built}
 use Rattle.builder.specs.Call as call
 use Rattle.builder.specs.Call.{Memory, report, left, buildOf}
 use Rattle.builder.proofs.Names.{allowed}

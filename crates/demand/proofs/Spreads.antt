@@ -21,8 +21,7 @@ use Rattle.tries.specs.declared.Compares.{Compares}
 use Rattle.tries.specs.Try.{tryOf}
 use Rattle.tries.specs.Tries.{Trying, tryAt, tried, tries}
 use Rattle.tries.proofs.Passed.{tried-has}
-use Rattle.builder.specs.Build.{listed, numberList}
-use Rattle.checker.specs.Check.{counts, count, valued, valuesOf}
+use Rattle.number_list.specs.Lists.{counts, count, valued, valuesOf, listed, numberList}
 
 -- ---- how many
 

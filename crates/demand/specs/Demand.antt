@@ -22,7 +22,7 @@ use Rattle.walk.specs.Values.{numbered, stepAt}
 use Rattle.tries.specs.Try.{plain}
 use Rattle.tries.specs.Tries.{tryAt}
 use Rattle.reads.specs.Reads.{readsOn}
-use Rattle.checker.specs.Check.{count, valuesOf}
+use Rattle.number_list.specs.Lists.{count, valuesOf}
 
 -- ---- what records write
 

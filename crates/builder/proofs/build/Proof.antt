@@ -27,8 +27,8 @@ returns c =
     let m = memory (args .image .now) (args .numbers .now) (args .work .now) in
     (λ i. (c .refused .ensures i, m)) ∙ stopped _ _ (tested .before .is-allowed .ensures) (tested .if1 .taken)
 
-zero-list-requires : tie.Need-zero-list-requires
-zero-list-requires c κs = search needs
+clear-requires : tie.Need-clear-requires
+clear-requires c κs = search needs
 
 build-names-requires : tie.Need-build-names-requires
 build-names-requires c κs =
@@ -36,7 +36,7 @@ build-names-requires c κs =
     let zeroed = numbers .before in
     let tested = zeroed .before .before in
     let fine = allowed _ _ _ _ _ (granted (tested .before .is-allowed .ensures) (tested .if1 .left)) in
-    (fine .tape, fine .initial, fine .image, zeroed .zero-list .ensures ∙ ap (λ (n : ℕ). replicate n (pos 0)) (fine .list), fine .work)
+    (fine .tape, fine .initial, fine .image, zeroed .clear .ensures ∙ ap (λ (n : ℕ). replicate n (pos 0)) (fine .list), fine .work)
 
 zero-work-requires : tie.Need-zero-work-requires
 zero-work-requires c κs = search needs
@@ -62,7 +62,7 @@ returns-2 c =
     let fine = allowed _ _ _ _ _ is in
     let told = built .build-names .ensures in
     let m = memory (args .image .now) (args .numbers .now) (args .work .now) in
-    let zero = zeroed .zero-list .ensures ∙ ap (λ (n : ℕ). replicate n (pos 0)) (fine .list) in
+    let zero = zeroed .clear .ensures ∙ ap (λ (n : ℕ). replicate n (pos 0)) (fine .list) in
     let work = worked .zero-work .ensures ∙ ap (λ (n : ℕ). replicate n 0) (told .3 ∙ fine .work) in
     left-all m _ zero (Build.built (args .tape .now) (origin (args .initial))) (told .0, told .1, told .2) work
     ∙ at-true (left m (Build.built (args .tape .now) (origin (args .initial)))) _ is
@@ -74,7 +74,7 @@ build-spec =
     is-allowed-requires
     refused-requires
     returns
-    zero-list-requires
+    clear-requires
     build-names-requires
     zero-work-requires
     same-length

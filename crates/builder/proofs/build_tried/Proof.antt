@@ -6,6 +6,7 @@ use Rattle.tries.specs.Write.{triedAll, rangeOf, imageOr}
 use Rattle.builder.specs.Build.{builder}
 use Rattle.builder.specs.Steps.{finishedIn, triedIn}
 use Rattle.tries.proofs.Agrees.{write-allowed}
+use Rattle.number_list.proofs.Kept.{gather-told}
 use Rattle.builder.proofs.Builds.{tried-refused, tried-done}
 use borrow.Author.Needs.{needs}
 use Rattle.builder.proofs.build_tried.Statement.{statement}
@@ -23,8 +24,8 @@ refused-requires c κs = search needs
 enum-known-start : tie.Need-enum-known-start
 enum-known-start c = search needs
 
-fill-list-requires : tie.Need-fill-list-requires
-fill-list-requires c κs = search needs
+gather-requires : tie.Need-gather-requires
+gather-requires c κs = search needs
 
 same-length : tie.Need-same-length
 same-length c = search needs
@@ -51,15 +52,16 @@ returns-2 : tie.Need-returns-2
 unfolding triedIn triedAll
 returns-2 c =
     let listed = c .before in
-    let told = listed .before .before .before .before .before in
+    let told = listed .before .before .before .before .before .before in
     let written = told .before .before .before .before in
     let given = written .before .before .before .before .before in
     let args = given .args in
     let all = write-allowed (args .tape .now) (args .nodes .now) (args .t3) (args .initial) builder (given .pre .0) (given .pre .1) (given .pre .2) in
+    let told-list = gather-told (args .tape .now) (args .t3 .number) (listed .gather .ensures) (given .pre .3) (given .pre .4) in
     tried-done (finishedIn (statements (args .tape .now)) (args .passes) (args .t3)) (args .image .now) (args .list .now) (told .start .given .1)
     (triedAll (args .tape .now) (args .nodes .now) (args .t3) (args .initial) builder)
     (written .write .ensures .0 ∙ ap (mapped rangeOf) all) (written .write .ensures .1 ∙ ap (imageOr (args .image .now)) all)
-    (λ t. (refl, refl, refl, listed .fill-list .ensures .0, refl, listed .fill-list .ensures .1))
+    (λ t. (refl, refl, refl, told-list .0, refl, told-list .1))
 
 pub build-tried-spec : {M : Type 1} → statement M
 build-tried-spec =
@@ -69,7 +71,7 @@ build-tried-spec =
     enum-known-number
     refused-requires
     enum-known-start
-    fill-list-requires
+    gather-requires
     same-length
     returns
     same-length-2

@@ -3,8 +3,8 @@ use mathlib.Core.Path.{sym}
 use lib.IntN.{pos}
 use lib.ListN.{List·getD-eq-default}
 use borrow.Author.Needs.{needs}
-use Rattle.checker.proofs.number_at.Statement.{statement}
-use Rattle.checker.proofs.number_at.Tie as tie
+use Rattle.number_list.proofs.number_at.Statement.{statement}
+use Rattle.number_list.proofs.number_at.Tie as tie
 
 mul-result : tie.Need-mul-result
 mul-result c = search needs

@@ -6,8 +6,8 @@ use lib.IntN.{pos}
 use lib.ListN.{length, length-set}
 use Rattle.refusals.proofs.Memory.{filled, filled-none, filled-more, filled-whole}
 use borrow.Author.Needs.{needs}
-use Rattle.builder.proofs.zero_list.Statement.{statement}
-use Rattle.builder.proofs.zero_list.Tie as tie
+use Rattle.number_list.proofs.clear.Statement.{statement}
+use Rattle.number_list.proofs.clear.Tie as tie
 
 abbrev Inv-loop : tie.InvT-loop
 Inv-loop list₀ i₀ list i = (i ≤ length list₀) × (list ≡ filled (pos 0) list₀ i) × (length list ≡ length list₀)
@@ -39,5 +39,5 @@ same-length c = c .before .loop .inv .2
 returns : tie.Need-returns Inv-loop μ-loop
 returns c = filled-whole (pos 0) _ _ _ (c .before .loop .inv .1) (c .before .loop .inv .0) (omega arith)
 
-pub zero-list-spec : {M : Type 1} → statement M
-zero-list-spec = tie.close (tie.spec Inv-loop μ-loop loop-holds mul-list slice-set-of-list add-i loop-less loop-again same-length returns)
+pub clear-spec : {M : Type 1} → statement M
+clear-spec = tie.close (tie.spec Inv-loop μ-loop loop-holds mul-list slice-set-of-list add-i loop-less loop-again same-length returns)

@@ -1,10 +1,10 @@
 -- What private functions promise each other on the way. No public promise cites these. Assumes nothing: these are definitions.
-use Prim.Native.Nat.{ℕ, _+_}
+use Prim.Native.Nat.{ℕ}
 use mathlib.Core.List.{List}
 use lib.ListN.{set}
 use Rattle.refusals.specs.Answer.{pick}
 use Rattle.form.specs.Form.{isNumbered}
 
--- one entry of an array, written where a record of this kind has a number in the list
+-- one place of memory, written where a record of this kind has a number in the list
 unfoldable pub putIn : {A : Type 0} → List A → ℕ → ℕ → A → List A
-putIn l names k a = pick (isNumbered k) (set l (names + 1) a) l
+putIn l i k a = pick (isNumbered k) (set l i a) l

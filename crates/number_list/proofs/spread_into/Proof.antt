@@ -3,12 +3,14 @@ use mathlib.Core.Path.{_≡_, refl, sym, ap, _∙_}
 use Prim.Native.Nat.{_-_}
 use native.Mathlib.Omega.{arith}
 use lib.ListN.{length}
+use Rattle.form.specs.Form.{declares}
 use Rattle.form.specs.Statements.{isLast}
+use Rattle.form.proofs.Said.{names-one}
 use Rattle.form.proofs.Statements.{not-empty, statements-past, statements-last}
 use Rattle.evaluator.proofs.Meanings.{ends}
-use Rattle.checker.proofs.Spreading.{Spreading, spreading-start, spreading-lengths, spreading-done, spreading-free, spreading-on}
-use Rattle.checker.proofs.spread.Statement.{statement}
-use Rattle.checker.proofs.spread.Tie as tie
+use Rattle.number_list.proofs.Spreading.{Spreading, spreading-start, spreading-done, spreading-on}
+use Rattle.number_list.proofs.spread_into.Statement.{statement}
+use Rattle.number_list.proofs.spread_into.Tie as tie
 
 abbrev Inv-loop : tie.InvT-loop
 Inv-loop tape list known₀ number₀ names₀ count₀ at₀ known number names count at =
@@ -18,7 +20,7 @@ abbrev μ-loop : tie.MeasureT-loop
 μ-loop tape list known₀ number₀ names₀ count₀ at₀ known number names count at = length tape - at
 
 loop-holds : tie.Need-loop-holds Inv-loop μ-loop
-loop-holds c = let asked = c .before .before .pre in (spreading-start _ _ (asked .2) (asked .3) (asked .1), refl, refl)
+loop-holds c = let asked = c .before .before .pre in (spreading-start _ _ (asked .0) (asked .1), refl, refl)
 
 record-requires : tie.Need-record-requires Inv-loop μ-loop
 record-requires c κs = tt
@@ -41,38 +43,35 @@ returns c =
 u8-at-requires : tie.Need-u8-at-requires Inv-loop μ-loop
 u8-at-requires c κs = tt
 
-put-requires : tie.Need-put-requires Inv-loop μ-loop
-put-requires c κs =
-    let read = c .before .before in
-    let more = read .before in
-    let found = more .before .before in
+valued-requires : tie.Need-valued-requires Inv-loop μ-loop
+valued-requires c κs =
+    let found = c .before .before .before .before .before in
     let kept = found .before .before .loop .inv .0 in
-    let lengths = spreading-lengths _ _ kept in
-    let last = sym (more .before .is-last .ensures) ∙ more .if1 .left in (
-      λ e. let free = spreading-free _ _ kept (found .«record» .ensures) last _ (read .u8-at .ensures) e in
-          (omega (arith, free, lengths .0), omega (arith, free, lengths .1)),
-      omega (arith, kept .few, kept .room),
-    )
+    (omega (arith, kept .low, found .before .loop-test .taken), omega (arith, kept .few, kept .low, found .before .loop-test .taken))
 
 names-in-requires : tie.Need-names-in-requires Inv-loop μ-loop
 names-in-requires c κs = tt
 
 loop-again : tie.Need-loop-again Inv-loop μ-loop
 loop-again c =
-    let put = c .before .before .before .before in
-    let read = put .before .before .before in
+    let valued = c .before .before .before .before in
+    let read = valued .before .before .before in
     let more = read .before in
     let found = more .before .before in
     let kept = found .before .before .loop .inv in
     let last = sym (more .before .is-last .ensures) ∙ more .if1 .left in (
       spreading-on _ _ (kept .0) (found .«record» .ensures) last _ (read .u8-at .ensures)
-          (put .put .ensures .1) (put .put .ensures .2) (put .put .ensures .0) (c .names-in .ensures),
+          (valued .valued .ensures .1) (valued .valued .ensures .2) (valued .valued .ensures .0) (c .names-in .ensures),
       c .before .before .before .known .given ∙ kept .1,
       c .before .number .given ∙ kept .2,
     )
 
 add-names : tie.Need-add-names Inv-loop μ-loop
-add-names c = omega (arith, loop-again c .0 .room)
+add-names c =
+    let read = c .before .before .before .before .before .before .before in
+    let found = read .before .before .before in
+    let kept = found .before .before .loop .inv .0 in
+    omega (arith, kept .low, found .before .loop-test .taken, names-one (declares (read .u8-at .result)) (c .names-in .ensures))
 
 add-at : tie.Need-add-at Inv-loop μ-loop
 add-at c =
@@ -95,8 +94,8 @@ same-length-4 c = c .before .loop .inv .2
 returns-2 : tie.Need-returns-2 Inv-loop μ-loop
 returns-2 c = spreading-done _ _ (c .before .loop .inv .0) (statements-past _ _ (c .loop-test .left))
 
-pub spread-spec : {M : Type 1} → statement M
-spread-spec =
+pub spread-into-spec : {M : Type 1} → statement M
+spread-into-spec =
     tie.close
     (tie.spec
     Inv-loop
@@ -108,7 +107,7 @@ spread-spec =
     same-length-2
     returns
     u8-at-requires
-    put-requires
+    valued-requires
     names-in-requires
     add-names
     add-at
