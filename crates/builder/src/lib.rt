@@ -16,7 +16,7 @@ ghost use lib.IntN.{pos};
 ghost use lib.ListN.{length, getD, set, drop, replicate};
 ghost use Rattle.refusals.specs.Answer.{pick};
 ghost use Rattle.refusals.specs.AnswerAt.{Fault, mapped};
-ghost use Rattle.segment.specs.Segment.{size};
+ghost use Rattle.pen.specs.Pens.{size};
 ghost use Rattle.edges.specs.Edges.{maxNodes};
 ghost use Rattle.form.specs.Form.{maxTape, isNumbered};
 ghost use Rattle.form.specs.Statements.{statements};
