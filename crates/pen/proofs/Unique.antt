@@ -1,4 +1,5 @@
--- Each public call allows one answer: the law of `refusals`, applied to each call's own contract. Assumes nothing.
+-- Each public call allows one answer: the law of `refusals`, applied to each call's own contract.
+-- Assumes nothing.
 use mathlib.Core.Path.{_≡_, refl}
 use Rattle.refusals.specs.Answer.{Answer, Done, Refused}
 use Rattle.refusals.specs.Says as outcome

@@ -1,4 +1,5 @@
--- Document 01's "Segment": what a pen over a lent image is, and what is read of it. Assumes nothing: these are definitions.
+-- Document 01's "Segment": what a pen over a lent image is, and what is read of it.
+-- Assumes nothing: these are definitions.
 use mathlib.Core.Bool.{Bool, false, _&&_}
 use Prim.Native.Nat.{ℕ, _+_, _-_}
 use mathlib.Core.List.{List, []}

@@ -1,4 +1,5 @@
--- Document 01's "Segment": what a call makes of a pen and of a lent image. Assumes nothing: these are definitions.
+-- Document 01's "Segment": what a call makes of a pen and of a lent image.
+-- Assumes nothing: these are definitions.
 use mathlib.Core.Bool.{Bool, true}
 use Prim.Native.Nat.{ℕ, _+_, min, max}
 use mathlib.Core.List.{List}
