@@ -1,7 +1,7 @@
-// The pen that writes bytes into a lent image of 65,536 bytes, and what is read of it, under the Rust's names.
-// It is a small struct; the image stands beside it, so that writing one byte costs one byte. The calls that move
-// it and write are in the crate segment. A call on a pen or an image that is not sound is refused (1); is_sound,
-// is_sound_over and has_room only tell.
+// The pen that writes bytes into a lent image of 65,536 bytes, and what is read of it, under the Rust's
+// names. The pen is a small struct; the image stands beside it, so that writing one byte costs one byte. The
+// calls that move it and write are in the crate segment. A call on a pen or an image that is not sound is
+// refused (1); is_sound, is_sound_over and has_room only tell.
 use int64::Number;
 use program_counter::Extent;
 use program_counter::Place;

@@ -1,7 +1,7 @@
 // The segment: the calls that move a pen over a lent image of 65,536 bytes and write, under the Rust's names.
-// reset, set_pc and emit are here functions that take a pen and give one; those of the crate lent_pen change a
-// pen that is lent. What a pen is, and what is read of it, is in the crate pen. A call on a pen or an image that
-// is not sound is refused (1), and a refused call changes nothing.
+// reset, set_pc and emit are here functions that take a pen and give one; those of the crate lent_pen change
+// a pen that is lent. What a pen is, and what is read of it, is in the crate pen. A call on a pen or an image
+// that is not sound is refused (1), and a refused call changes nothing.
 use pen::Pen;
 use pen::SIZE;
 use pen::begin;
