@@ -8,7 +8,7 @@ use lib.ListN.{length, replicate}
 use Rattle.refusals.specs.Answer.{pick}
 use Rattle.refusals.specs.AnswerAt.{AnswerAt, Fine, Fault}
 use Rattle.refusals.specs.Table.{argument}
-use Rattle.segment.specs.Segment.{size}
+use Rattle.pen.specs.Pens.{size}
 use Rattle.edges.specs.Edges.{maxNodes}
 use Rattle.form.specs.Form.{maxTape}
 use Rattle.walk.specs.Walk.{origin}

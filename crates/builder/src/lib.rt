@@ -14,7 +14,7 @@ ghost use Prim.Native.Nat.{_+_, _≤_, _<_};
 ghost use lib.IntN.{pos};
 ghost use lib.ListN.{length, replicate};
 ghost use Rattle.refusals.specs.AnswerAt.{Fault, mapped};
-ghost use Rattle.segment.specs.Segment.{size};
+ghost use Rattle.pen.specs.Pens.{size};
 ghost use Rattle.edges.specs.Edges.{maxNodes};
 ghost use Rattle.form.specs.Form.{maxTape};
 ghost use Rattle.form.specs.Statements.{statements};

@@ -15,7 +15,7 @@ use Rattle.refusals.specs.AnswerAt.{AnswerAt, Fine, Fault, mapped, andThen}
 use Rattle.refusals.specs.Table.{numberDiffers, bytesDiffer}
 use Rattle.refusals.proofs.Never.{never}
 use Rattle.refusals.proofs.Answers.{fault-is}
-use Rattle.segment.specs.Segment.{size}
+use Rattle.pen.specs.Pens.{size}
 use Rattle.symbols.specs.declared.SymbolTable.{SymbolTable}
 use Rattle.form.specs.Form.{maxTape}
 use Rattle.form.specs.Statements.{Statement, statements}

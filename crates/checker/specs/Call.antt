@@ -9,7 +9,7 @@ use lib.ListN.{length}
 use Rattle.refusals.specs.Answer.{pick}
 use Rattle.refusals.specs.AnswerAt.{AnswerAt, Fine, Fault}
 use Rattle.refusals.specs.Table.{argument}
-use Rattle.segment.specs.Segment.{size}
+use Rattle.pen.specs.Pens.{size}
 use Rattle.form.specs.Form.{maxTape}
 use Rattle.walk.specs.Walk.{origin}
 use Rattle.checker.specs.declared.Checked as C

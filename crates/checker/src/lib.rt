@@ -15,7 +15,7 @@ ghost use lib.ListN.{length};
 ghost use Rattle.refusals.specs.Answer.{pick};
 ghost use Rattle.refusals.specs.AnswerAt.{Fine, Fault};
 ghost use Rattle.refusals.specs.Table.{bytesDiffer};
-ghost use Rattle.segment.specs.Segment.{size};
+ghost use Rattle.pen.specs.Pens.{size};
 ghost use Rattle.edges.specs.Edges.{maxNodes};
 ghost use Rattle.form.specs.Form.{maxTape};
 ghost use Rattle.form.specs.Statements.{statements};

@@ -14,7 +14,7 @@ use Rattle.refusals.specs.AnswerAt.{AnswerAt, Fine, Fault}
 use Rattle.refusals.specs.Table.{argument}
 use Rattle.refusals.proofs.Never.{never}
 use Rattle.refusals.proofs.Answers.{fine-value}
-use Rattle.segment.specs.Segment.{size}
+use Rattle.pen.specs.Pens.{size}
 use Rattle.symbols.specs.declared.SymbolTable.{SymbolTable}
 use Rattle.edges.specs.Edges.{maxNodes}
 use Rattle.symbols.specs.Symbols.{numberOr0}

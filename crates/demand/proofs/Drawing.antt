@@ -8,9 +8,10 @@ use borrow.Author.Tests.{le-leb, eq-eqb}
 use Rattle.refusals.specs.Answer.{Done}
 use Rattle.refusals.specs.Memory.{over}
 use Rattle.refusals.proofs.Answers.{done-then, done-mapped}
-use Rattle.segment.specs.declared.Pen.{Pen}
-use Rattle.segment.specs.Segment.{size, soundOver, ofPen, ofBoth, setPc, fits, widened, ground, emit, imageAfter}
-use Rattle.segment.proofs.Laws.{Sound, sound-has, sound-is}
+use Rattle.pen.specs.declared.Pen.{Pen}
+use Rattle.pen.specs.Pens.{size, soundOver, ofPen, ofBoth, fits}
+use Rattle.segment.specs.Segment.{setPc, widened, ground, emit, imageAfter}
+use Rattle.pen.proofs.Laws.{Sound, sound-has, sound-is}
 use Rattle.segment.proofs.Kept.{set-pc-place, set-pc-sound, emit-has, emit-sound}
 use Rattle.tries.specs.Tries.{Page, page, drawn}
 

@@ -10,7 +10,7 @@ use lib.ListN.{length}
 use borrow.Author.Tests.{eqb-true, eq-eqb, le-leb}
 use Rattle.refusals.specs.AnswerAt.{Fine}
 use Rattle.refusals.proofs.Answers.{fine-passed, fine-then}
-use Rattle.segment.specs.Segment.{size}
+use Rattle.pen.specs.Pens.{size}
 use Rattle.form.specs.Form.{maxTape}
 use Rattle.form.specs.Statements.{Statement, statements}
 use Rattle.evaluator.specs.Expression.{Value}

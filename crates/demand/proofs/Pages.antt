@@ -12,8 +12,9 @@ use Rattle.refusals.specs.Answer.{Done, pick}
 use Rattle.refusals.proofs.Memory.{length-over, getD-over, over-before, over-at, getD-zeros}
 use Rattle.refusals.proofs.Never.{never}
 use Rattle.refusals.proofs.Pick.{done-value}
-use Rattle.segment.specs.Segment.{size, begun, widened, ground}
-use Rattle.segment.proofs.Laws.{Sound}
+use Rattle.pen.specs.Pens.{size, begun}
+use Rattle.segment.specs.Segment.{widened, ground}
+use Rattle.pen.proofs.Laws.{Sound}
 use Rattle.walk.specs.Walk.{Origin}
 use Rattle.tries.specs.Tries.{Page, blank, drawn}
 use Rattle.checker.specs.Check.{covered}

@@ -12,7 +12,7 @@ use lib.ListN.{length, getD, take, drop, drop-of-length-le}
 use lib.Seq.{drop-cons}
 use Rattle.refusals.specs.AnswerAt.{AnswerAt, Fine, andThen}
 use Rattle.refusals.proofs.Answers.{fine-then}
-use Rattle.segment.specs.Segment.{size}
+use Rattle.pen.specs.Pens.{size}
 use Rattle.form.specs.Statements.{Constant, Statement}
 use Rattle.evaluator.specs.Expression.{Value}
 use Rattle.walk.specs.declared.Walk.{Walk}

@@ -10,7 +10,7 @@ use mathlib.Core.Path.{_≡_}
 use lib.IntN.{ℤ, pos}
 use lib.ListN.{length, getD, take}
 use Rattle.refusals.specs.AnswerAt.{Fine, part}
-use Rattle.segment.specs.Segment.{size}
+use Rattle.pen.specs.Pens.{size}
 use Rattle.symbols.specs.declared.SymbolTable.{SymbolTable}
 use Rattle.form.specs.Form.{maxTape}
 use Rattle.form.specs.Statements.{Close, Label, Constant, Statement, statements}

@@ -34,11 +34,11 @@ use denote.Triple.Clauses.{ensured, lasts}
 use Rattle.refusals.specs.declared.Outcome.{Outcome}
 use Rattle.refusals.specs.Says.{says}
 use Rattle.refusals.proofs.Outcome as O
-use Rattle.segment.specs.declared.Pen.{Pen}
+use Rattle.pen.specs.declared.Pen.{Pen}
 use Rattle.segment.specs.Segment as by-value
 use Rattle.segment.specs.Says.{left}
-use Rattle.segment.proofs.Pen as P
-use Rattle.segment.proofs.Pen.Laws as P′
+use Rattle.pen.proofs.Pen as P
+use Rattle.pen.proofs.Pen.Laws as P′
 use Rattle.lent_pen.proofs.reset as reset
 use Rattle.lent_pen.proofs.reset.Symbol as reset-code
 use Rattle.lent_pen.proofs.set_pc as set-pc

@@ -28,9 +28,9 @@ use denote.Lend.{Held, lends-ref, ref-back, lends-slice, slice-back}
 use denote.Steps.{only}
 use denote.Struct.Steps.{spelt}
 use denote.Struct.Laws as of-struct
-use Rattle.segment.specs.declared.Pen.{Pen}
-use Rattle.segment.proofs.Pen as P
-use Rattle.segment.proofs.Pen.Laws as P′
+use Rattle.pen.specs.declared.Pen.{Pen}
+use Rattle.pen.proofs.Pen as P
+use Rattle.pen.proofs.Pen.Laws as P′
 use Rattle.lent_pen.proofs.Parts.{pens, IsPen, owned-pen, peeks-pen}
 
 -- ---- a pen in a local

@@ -22,10 +22,10 @@ use denote.Enum.Laws as of-enum
 use Rattle.refusals.specs.declared.Outcome.{Outcome}
 use Rattle.refusals.proofs.Outcome as O
 use Rattle.refusals.proofs.Outcome.Laws as O′
-use Rattle.segment.specs.declared.Pen.{Pen}
+use Rattle.pen.specs.declared.Pen.{Pen}
 use Rattle.segment.specs.declared.Drawn.{Drawn}
-use Rattle.segment.proofs.Pen as P
-use Rattle.segment.proofs.Pen.Laws as P′
+use Rattle.pen.proofs.Pen as P
+use Rattle.pen.proofs.Pen.Laws as P′
 use Rattle.segment.proofs.Drawn as D
 use Rattle.segment.proofs.Drawn.Laws as D′
 

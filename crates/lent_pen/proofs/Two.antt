@@ -12,11 +12,12 @@ use Rattle.refusals.specs.Answer.{Answer, Done, Refused, andThen}
 use Rattle.refusals.specs.Table.{argument, outside}
 use Rattle.refusals.proofs.Pick.{at-false}
 use Rattle.refusals.proofs.Never.{never}
-use Rattle.segment.specs.declared.Pen.{Pen}
-use Rattle.segment.specs.Segment.{size, sound, soundOver, ofPen, ofBoth, begun, new, setPc, fits, widened, emit, imageAfter, range}
+use Rattle.pen.specs.declared.Pen.{Pen}
+use Rattle.pen.specs.Pens.{size, sound, soundOver, ofPen, ofBoth, begun, new, fits, range}
+use Rattle.segment.specs.Segment.{setPc, widened, emit, imageAfter}
 use Rattle.lent_pen.specs.Two.{two, rangeOfTwo, lastOf, imageOfTwo}
 use Rattle.lent_pen.specs.Steps.{lentTo}
-use Rattle.segment.proofs.Laws.{sound-has, sound-is, sound-over-has, new-is}
+use Rattle.pen.proofs.Laws.{sound-has, sound-is, sound-over-has, new-is}
 use Rattle.segment.proofs.Kept.{set-pc-sound, emit-sound, emit-length}
 
 -- ---- one call

@@ -21,7 +21,7 @@ use Rattle.program_counter.specs.Says.{saysRange}
 use Rattle.program_counter.proofs.Unique.{backRange, back-range}
 use Rattle.segment.specs.Says.{saysDrawn, left}
 use Rattle.segment.specs.Segment as by-value
-use Rattle.segment.specs.declared.Pen.{Pen}
+use Rattle.pen.specs.declared.Pen.{Pen}
 use Rattle.segment.specs.declared.Drawn.{Drawn}
 use Rattle.segment.proofs.Unique.{backDrawn, back-drawn}
 use Rattle.lent_pen.proofs.reset as f-reset

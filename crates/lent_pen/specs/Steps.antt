@@ -2,8 +2,9 @@
 -- Assumes nothing: these are definitions.
 use Prim.Native.Nat.{ℕ}
 use mathlib.Core.List.{List}
-use Rattle.segment.specs.declared.Pen.{Pen}
-use Rattle.segment.specs.Segment.{setPc, emit, imageAfter, begun}
+use Rattle.pen.specs.declared.Pen.{Pen}
+use Rattle.pen.specs.Pens.{begun}
+use Rattle.segment.specs.Segment.{setPc, emit, imageAfter}
 use Rattle.segment.specs.Says.{left}
 
 -- after an emit

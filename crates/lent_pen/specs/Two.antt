@@ -4,8 +4,9 @@ use mathlib.Core.List.{List}
 use lib.Dec.{leb}
 use Rattle.refusals.specs.Answer.{Answer, Done, Refused, pick, mapped, andThen}
 use Rattle.refusals.specs.Table.{argument}
-use Rattle.segment.specs.declared.Pen.{Pen}
-use Rattle.segment.specs.Segment.{size, new, setPc, emit, imageAfter, range}
+use Rattle.pen.specs.declared.Pen.{Pen}
+use Rattle.pen.specs.Pens.{size, new, range}
+use Rattle.segment.specs.Segment.{setPc, emit, imageAfter}
 
 -- a pen and its image, after an emit
 abbrev pub emitted : Pen × List ℕ → List ℕ → Answer (Pen × List ℕ)

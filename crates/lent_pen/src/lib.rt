@@ -1,11 +1,11 @@
-// The pen of the crate segment, lent: reset, set_pc and emit change it where it is, under the Rust's names. Each is thin: it takes the
+// The pen, lent: reset, set_pc and emit change it where it is, under the Rust's names. Each is thin: it takes the
 // pen out, calls segment's function of the same name, which takes a pen by value, and stores the pen that comes back. emit_two is for
 // callers that hold no pen.
+use pen::Pen;
 use program_counter::Extent;
 use refusals::ARGUMENT;
 use refusals::OUTSIDE;
 use refusals::Outcome;
-use segment::Pen;
 ghost use mathlib.Core.Path.{_≡_};
 ghost use Rattle.refusals.specs.Says.{says};
 ghost use Rattle.program_counter.specs.Says.{saysRange};
@@ -55,8 +55,8 @@ pub fn emit_two(
     ensures { λ r. ⌜ (saysRange r ≡ rangeOfTwo initial (now (image .entry)) (now (first .entry)) place (now (second .entry)))
         × (now (image .exit) ≡ imageOfTwo initial (now (image .entry)) (now (first .entry)) place (now (second .entry))) ⌝ }
 {
-    let here = segment::begin(initial, initial);
-    let there = segment::begin(place, place);
+    let here = pen::begin(initial, initial);
+    let there = pen::begin(place, place);
     if !here.is_sound_over(image.len()) {
         return Extent::Refused(ARGUMENT);
     }
@@ -76,7 +76,7 @@ pub fn emit_two(
 fn lend(initial: usize, image: &mut [u8], first: &[u8], place: usize, second: &[u8]) -> Pen
     ensures { λ r. ⌜ (r, now (image .exit)) ≡ lentTo initial (now (image .entry)) (now (first .entry)) place (now (second .entry)) ⌝ }
 {
-    let mut pen = segment::begin(initial, initial);
+    let mut pen = pen::begin(initial, initial);
     emit(&mut pen, image, first);
     set_pc(&mut pen, place);
     emit(&mut pen, image, second);

@@ -1,10 +1,10 @@
 // Document 01's number of each answer, 0 where a call was done.
 use int64::Number;
+use pen::NewPen;
 use program_counter::Extent;
 use program_counter::Place;
 use refusals::Outcome;
 use segment::Drawn;
-use segment::NewPen;
 use source_map::Count;
 use source_map::Found;
 use source_map::OneEntry;

@@ -7,7 +7,7 @@ mod pens;
 mod show;
 
 use libc::STDIN_FILENO;
-use segment::Pen;
+use pen::Pen;
 
 // Room for the questions.
 const CASES: usize = 65536;

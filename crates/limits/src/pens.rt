@@ -7,7 +7,7 @@ use crate::answers::of_place;
 use crate::answers::of_range;
 use crate::show::print;
 use crate::show::print_name;
-use segment::Pen;
+use pen::Pen;
 
 // How many bytes an image has, and one more.
 const SIZE: usize = 65536;

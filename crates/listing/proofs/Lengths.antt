@@ -14,7 +14,7 @@ use Rattle.refusals.specs.AnswerAt.{AnswerAt, Fine, Fault, mapped, andThen}
 use Rattle.refusals.specs.Table.{argument}
 use Rattle.lines.specs.Text.{lastLine}
 use Rattle.lines.proofs.Lengths.{last-length, refused-length}
-use Rattle.segment.specs.Segment.{size}
+use Rattle.pen.specs.Pens.{size}
 use Rattle.symbols.specs.declared.SymbolTable.{SymbolTable}
 use Rattle.tape.specs.Record.{bytesAt}
 use Rattle.form.specs.Form.{maxTape}

@@ -9,7 +9,7 @@ use lib.ListN.{length}
 use Rattle.refusals.specs.Answer.{pick}
 use Rattle.refusals.specs.AnswerAt.{AnswerAt, Fine, Fault, part, mapped, andThen}
 use Rattle.lines.specs.Text.{lastLine}
-use Rattle.segment.specs.Segment.{size}
+use Rattle.pen.specs.Pens.{size}
 use Rattle.symbols.specs.declared.SymbolTable.{SymbolTable}
 use Rattle.form.specs.Form.{maxTape}
 use Rattle.form.specs.Statements.{Statement, isFollowed, statements}

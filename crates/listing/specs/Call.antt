@@ -8,7 +8,7 @@ use Rattle.refusals.specs.Answer.{Answer, Done, Refused, pick}
 use Rattle.refusals.specs.AnswerAt.{Fault}
 use Rattle.refusals.specs.Memory.{over}
 use Rattle.refusals.specs.Table.{argument}
-use Rattle.segment.specs.Segment.{size}
+use Rattle.pen.specs.Pens.{size}
 use Rattle.form.specs.Form.{maxTape}
 use Rattle.walk.specs.Walk.{origin}
 use Rattle.listing.specs.declared.Listed as L

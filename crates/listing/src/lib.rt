@@ -7,7 +7,7 @@ use refusals::OutcomeAt;
 ghost use mathlib.Core.Path.{_≡_};
 ghost use Prim.Native.Nat.{_≤_, _<_};
 ghost use lib.ListN.{length};
-ghost use Rattle.segment.specs.Segment.{size};
+ghost use Rattle.pen.specs.Pens.{size};
 ghost use Rattle.edges.specs.Edges.{maxNodes};
 ghost use Rattle.page.specs.Page.{laid};
 ghost use Rattle.form.specs.Form.{maxTape};

@@ -2,7 +2,8 @@
 use mathlib.Core.Path.{refl}
 use Rattle.opcodes.specs.Manual.{formsOf}
 use Rattle.opcodes.specs.Encode.{takes, bytesOf, inRange, encodeOf}
-use Rattle.segment.specs.Segment.{sound, soundOver, ofBoth, begun, fits, widened, emit}
+use Rattle.pen.specs.Pens.{sound, soundOver, ofBoth, begun, fits}
+use Rattle.segment.specs.Segment.{widened, emit}
 use Rattle.text_encoding.specs.Petscreen.{petscreenOf}
 use Rattle.little.specs.Little.{numberAt}
 use Rattle.edges.specs.Edges as edges

@@ -11,7 +11,8 @@ use Rattle.refusals.specs.Each.{Each}
 use Rattle.refusals.specs.Table.{arithmetic, tooSmall, outside}
 use Rattle.int64.specs.Num.{modZ}
 use Rattle.opcodes.specs.Encode.{lowFirst, encodeOf}
-use Rattle.segment.specs.Segment.{size, begun, emit}
+use Rattle.pen.specs.Pens.{size, begun}
+use Rattle.segment.specs.Segment.{emit}
 use Rattle.text_encoding.specs.Petscreen.{petscreenOf}
 use Rattle.edges.specs.Edges.{root}
 use Rattle.symbols.specs.Symbols.{new}

@@ -16,7 +16,7 @@ use Rattle.refusals.proofs.Answers.{fine-value, fault-is}
 use Rattle.page.specs.Page.{laid}
 use Rattle.page.proofs.Laying.{laid-then, laid-same}
 use Rattle.lines.specs.Text.{lastLine, refusedLine}
-use Rattle.segment.specs.Segment.{size}
+use Rattle.pen.specs.Pens.{size}
 use Rattle.form.specs.Form.{maxTape}
 use Rattle.form.specs.Statements.{statements}
 use Rattle.evaluator.specs.Expression.{Value}

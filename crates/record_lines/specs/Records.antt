@@ -7,7 +7,7 @@ use lib.IntN.{ℤ}
 use Rattle.refusals.specs.AnswerAt.{AnswerAt, Fine, Fault, part, mapped}
 use Rattle.mnemonics.specs.Mnemonics.{dashes, nameOf}
 use Rattle.lines.specs.Text.{line, lastLine, refusedLine}
-use Rattle.segment.specs.Segment.{size}
+use Rattle.pen.specs.Pens.{size}
 use Rattle.form.specs.Statements.{What, Instruction, Open, Close, Label, Constant, SetPlace, Byte, Word, Screen, Statement, statements}
 use Rattle.evaluator.specs.Expression.{Value}
 use Rattle.walk.specs.declared.Numbers.{Numbers}

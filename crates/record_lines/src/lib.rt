@@ -24,7 +24,7 @@ ghost use Rattle.refusals.specs.AnswerAt.{part, mapped};
 ghost use Rattle.opcodes.specs.Encode.{code};
 ghost use Rattle.page.specs.Page.{laid};
 ghost use Rattle.mnemonics.specs.Mnemonics.{nameOf};
-ghost use Rattle.segment.specs.Segment.{size};
+ghost use Rattle.pen.specs.Pens.{size};
 ghost use Rattle.form.specs.Form.{maxTape};
 ghost use Rattle.form.specs.Statements.{whatOf, isInner, statements};
 ghost use Rattle.evaluator.specs.Says.{saysValue};

@@ -9,12 +9,12 @@
 use int64::Number;
 use libc::STDIN_FILENO;
 use libc::STDOUT_FILENO;
+use pen::NewPen;
+use pen::Pen;
 use program_counter::Extent;
 use program_counter::Place;
 use refusals::Outcome;
 use segment::Drawn;
-use segment::NewPen;
-use segment::Pen;
 
 // The pen after a question, and whether there was one.
 struct Turn {

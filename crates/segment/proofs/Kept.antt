@@ -1,6 +1,6 @@
 -- What a build that begins with `new` may rely on: a pen that a call gives is sound, and an image keeps its length.
 -- Assumes nothing.
-use mathlib.Core.Bool.{Bool, true, false, _&&_}
+use mathlib.Core.Bool.{Bool, true, false}
 use mathlib.Core.Path.{_≡_, refl, sym, ap, _∙_, subst}
 use mathlib.Core.List.{List}
 use Prim.Native.Nat.{ℕ, _+_, _≤_}
@@ -13,15 +13,13 @@ use Rattle.refusals.specs.Table.{argument, outside}
 use Rattle.refusals.specs.Memory.{over}
 use Rattle.refusals.proofs.Memory.{length-over}
 use Rattle.refusals.proofs.Pick.{done-passed, done-value}
-use Rattle.segment.specs.declared.Pen.{Pen}
-use Rattle.segment.specs.Segment.{size, sound, soundOver, ofPen, ofBoth, begun, new, reset, setPc, fits, widened, ground, emit, imageAfter}
-use Rattle.segment.proofs.Laws.{new-has, Sound, sound-has, sound-is, sound-over-has, fits-has}
+use Rattle.pen.specs.declared.Pen.{Pen}
+use Rattle.pen.specs.Pens.{size, sound, soundOver, ofPen, ofBoth, begun, fits}
+use Rattle.pen.proofs.Laws.{Sound, sound-has, sound-is, sound-over-has, fits-has}
+use Rattle.pen.proofs.Kept.{begun-sound}
+use Rattle.segment.specs.Segment.{reset, setPc, widened, ground, emit, imageAfter}
 
 -- ---- pens
-
-begun-sound : (i t : ℕ) → i ≤ 65536 → t ≤ 65536 → sound (begun i t) ≡ true
-unfolding begun
-begun-sound i t h k = sound-is _ (record { place = h; initial = h; target = k; start = omega arith; end = h })
 
 widened-sound : (p : Pen) (n : ℕ) → Sound p → p .place + n ≤ 65536 → sound (widened p n) ≡ true
 unfolding widened
@@ -32,13 +30,6 @@ widened-sound p n s h = go (p .emitted) refl
     go false e = sound-is _ (record { place = h; initial = s .initial; target = s .target; start = simp e (omega arith); end = simp e h })
 
 -- a pen that a call gives is sound
-pub new-sound : (i t : ℕ) {q : Pen} → new i t ≡ Done q → sound q ≡ true
-unfolding new
-new-sound i t e =
-    let a = done-passed (leb i size && leb t size) (Done (begun i t)) argument e in
-    let b = new-has i t (a .0) in
-    subst (λ (p : Pen). sound p ≡ true) (done-value (a .1)) (begun-sound i t (b .0) (b .1))
-
 pub reset-sound : (p : Pen) {q : Pen} → reset p ≡ Done q → sound q ≡ true
 unfolding reset ofPen
 reset-sound p e =

@@ -1,14 +1,8 @@
 -- What the answers say in document 01's terms. Assumes nothing: these are definitions.
 use Rattle.refusals.specs.Answer.{Answer, Done, Refused}
 use Rattle.refusals.specs.Says.{says}
-use Rattle.segment.specs.declared.Pen.{Pen}
+use Rattle.pen.specs.declared.Pen.{Pen}
 use Rattle.segment.specs.declared.Drawn.{Drawn}
-use Rattle.segment.specs.declared.NewPen as N
-use Rattle.segment.specs.declared.NewPen.the-variants as new
-
-abbrev pub saysNew : N.NewPen → Answer Pen
-saysNew (new.Is p) = Done p
-saysNew (new.Refused n) = Refused n
 
 -- the pen afterwards and the outcome
 abbrev pub saysDrawn : Drawn → Pen × Answer (Unit {0})

@@ -15,7 +15,7 @@ use Rattle.refusals.specs.declared.Outcome.the-variants as outcome
 use Rattle.refusals.specs.Says.{says}
 use Rattle.refusals.proofs.Never.{never}
 use Rattle.opcodes.specs.declared.Code.{Code}
-use Rattle.segment.specs.declared.Pen.{Pen}
+use Rattle.pen.specs.declared.Pen.{Pen}
 use Rattle.segment.specs.declared.Drawn.{Drawn}
 use Rattle.segment.specs.Segment.{setPc, emit, imageAfter}
 use Rattle.segment.specs.Says as S

@@ -21,8 +21,9 @@ use Rattle.opcodes.specs.Manual.{formsOf, isBranch}
 use Rattle.opcodes.specs.Encode as encode
 use Rattle.opcodes.specs.Encode.{takes, bytesOf, encodeForms, inRange, encodeOf}
 use Rattle.branch.specs.Branch.{offset, inReach, distanceOf}
-use Rattle.segment.specs.declared.Pen.{Pen}
-use Rattle.segment.specs.Segment.{sound, soundOver, ofPen, ofBoth, setPc, fits, widened, emit, imageAfter}
+use Rattle.pen.specs.declared.Pen.{Pen}
+use Rattle.pen.specs.Pens.{sound, soundOver, ofPen, ofBoth, fits}
+use Rattle.segment.specs.Segment.{setPc, widened, emit, imageAfter}
 use Rattle.segment.proofs.Kept.{set-pc-sound, emit-sound, emit-length}
 use Rattle.tape.specs.Kinds.{flags, binary, instruction, end}
 use Rattle.tape.specs.Record.{bytesAt}

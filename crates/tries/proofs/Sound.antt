@@ -11,10 +11,12 @@ use Rattle.refusals.specs.Answer.{Answer, Done, Refused}
 use Rattle.refusals.specs.AnswerAt.{Fine, mapped, andThen}
 use Rattle.refusals.proofs.Never.{never}
 use Rattle.refusals.proofs.Pick.{done-value}
-use Rattle.segment.specs.declared.Pen.{Pen}
-use Rattle.segment.specs.Segment.{size, sound, setPc, emit, imageAfter}
-use Rattle.segment.proofs.Laws.{new-is, sound-has}
-use Rattle.segment.proofs.Kept.{new-sound, emit-sound, emit-length}
+use Rattle.pen.specs.declared.Pen.{Pen}
+use Rattle.pen.specs.Pens.{size, sound}
+use Rattle.segment.specs.Segment.{setPc, emit, imageAfter}
+use Rattle.pen.proofs.Laws.{new-is, sound-has}
+use Rattle.pen.proofs.Kept.{new-sound}
+use Rattle.segment.proofs.Kept.{emit-sound, emit-length}
 use Rattle.form.specs.Statements.{Statement}
 use Rattle.evaluator.specs.Expression.{Value}
 use Rattle.walk.specs.Walk.{Origin}

@@ -14,8 +14,9 @@ use Rattle.refusals.specs.AnswerAt.{AnswerAt, Fine, Fault, andThen}
 use Rattle.refusals.specs.declared.OutcomeAt.{OutcomeAt}
 use Rattle.refusals.specs.declared.OutcomeAt.the-variants as outcomeAt
 use Rattle.refusals.proofs.Never.{never}
-use Rattle.segment.specs.declared.Pen.{Pen}
-use Rattle.segment.specs.Segment.{size, begun, setPc, emit, imageAfter}
+use Rattle.pen.specs.declared.Pen.{Pen}
+use Rattle.pen.specs.Pens.{size, begun}
+use Rattle.segment.specs.Segment.{setPc, emit, imageAfter}
 use Rattle.segment.proofs.Kept.{set-pc-place, emit-has}
 use Rattle.tape.specs.Record.{bytesAt}
 use Rattle.tape.proofs.Records.{record-end}

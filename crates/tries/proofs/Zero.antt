@@ -17,8 +17,9 @@ use Rattle.refusals.specs.Memory.{over}
 use Rattle.refusals.proofs.Memory.{getD-over, over-before, getD-zeros}
 use Rattle.refusals.proofs.Never.{never}
 use Rattle.refusals.proofs.Pick.{done-passed, done-value}
-use Rattle.segment.specs.declared.Pen.{Pen}
-use Rattle.segment.specs.Segment.{size, sound, begun, ofPen, setPc, widened, ground, emit, imageAfter}
+use Rattle.pen.specs.declared.Pen.{Pen}
+use Rattle.pen.specs.Pens.{size, sound, begun, ofPen}
+use Rattle.segment.specs.Segment.{setPc, widened, ground, emit, imageAfter}
 use Rattle.segment.proofs.Kept.{emit-has}
 use Rattle.form.specs.Statements.{Statement}
 use Rattle.evaluator.specs.Expression.{Value}

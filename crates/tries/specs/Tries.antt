@@ -7,8 +7,9 @@ use lib.ListN.{replicate}
 use Rattle.refusals.specs.Answer as A
 use Rattle.refusals.specs.Answer.{Answer, Done}
 use Rattle.refusals.specs.AnswerAt.{AnswerAt, Fine, mapped, andThen}
-use Rattle.segment.specs.declared.Pen.{Pen}
-use Rattle.segment.specs.Segment.{size, begun, setPc, emit, imageAfter}
+use Rattle.pen.specs.declared.Pen.{Pen}
+use Rattle.pen.specs.Pens.{size, begun}
+use Rattle.segment.specs.Segment.{setPc, emit, imageAfter}
 use Rattle.form.specs.Statements.{Statement, placed}
 use Rattle.evaluator.specs.Expression.{Value}
 use Rattle.walk.specs.declared.Walk.{Walk}

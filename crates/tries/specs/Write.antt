@@ -8,7 +8,7 @@ use Rattle.refusals.specs.Answer.{pick}
 use Rattle.refusals.specs.AnswerAt.{AnswerAt, Fine, Fault}
 use Rattle.refusals.specs.Table.{argument}
 use Rattle.opcodes.specs.declared.Code.{Code}
-use Rattle.segment.specs.Segment.{size}
+use Rattle.pen.specs.Pens.{size}
 use Rattle.form.specs.Form.{maxTape}
 use Rattle.form.specs.Statements.{statements}
 use Rattle.walk.specs.declared.Numbers.{Numbers}

@@ -13,11 +13,11 @@ use Rattle.lent_pen.proofs.Walk.{MutSlice, ShrSlice, Room, finally, sli
 use Rattle.lent_pen.proofs.Walk.{plain, only, heard, nothing, onEntry, Meets, tripleOf, Contract, Triple, calls-at, ensured, lasts}
 use Rattle.lent_pen.proofs.Walk.{entered, cited, says, Stays, stay-ref, gave-slice, stay-none-slice, walkOf, goes-ref}
 use Rattle.lent_pen.proofs.Walk.{goes-gave-slice, goes-none-slice, Walks, ends-at, walked, walk-meets}
-use Rattle.segment.specs.declared.Pen.{Pen}
+use Rattle.pen.specs.declared.Pen.{Pen}
 use Rattle.segment.specs.declared.Drawn.{Drawn}
 use Rattle.segment.specs.Segment as by-value
 use Rattle.segment.specs.Says.{saysDrawn, left}
-use Rattle.segment.proofs.Pen as P
+use Rattle.pen.proofs.Pen as P
 use Rattle.segment.proofs.Drawn as D
 use Rattle.segment.proofs.Drawn.Laws as D′
 use Rattle.lent_pen.proofs.Parts.{pens, outcomes, IsOutcome, drawn-tells, is-pen, is-answer, pen-typed, drawn-typed, outcome-typed}

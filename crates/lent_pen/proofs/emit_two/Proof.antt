@@ -3,7 +3,7 @@
 use mathlib.Core.Path.{ap, _∙_}
 use borrow.Author.Needs.{needs}
 use Rattle.refusals.proofs.Pick.{granted, denied}
-use Rattle.segment.specs.Segment.{sound}
+use Rattle.pen.specs.Pens.{sound}
 use Rattle.lent_pen.proofs.Two.{told-over, told-room, two-bad, two-place, two-first, two-second, two-done, refusal, finish}
 use Rattle.lent_pen.proofs.emit_two.Statement.{statement}
 use Rattle.lent_pen.proofs.emit_two.Tie as tie

@@ -14,17 +14,17 @@ use Rattle.lent_pen.proofs.Walk.{plain, only, owned, peeks, heard, noth
 use Rattle.lent_pen.proofs.Walk.{ensured, lasts, entered, cited, says, Stays, stay-none, gave-slice, stay-none-slice, walkOf}
 use Rattle.lent_pen.proofs.Walk.{goes-none, goes-gave-slice, goes-none-slice, Walks, ends-at, walked, walk-meets}
 use Rattle.refusals.specs.declared.Outcome.{Outcome}
-use Rattle.segment.specs.declared.Pen.{Pen}
-use Rattle.segment.specs.Segment.{begun}
+use Rattle.pen.specs.declared.Pen.{Pen}
+use Rattle.pen.specs.Pens.{begun}
 use Rattle.lent_pen.specs.Steps.{emitOn, setOn, lentTo}
-use Rattle.segment.proofs.Pen as P
-use Rattle.segment.proofs.Pen.Laws as P′
+use Rattle.pen.proofs.Pen as P
+use Rattle.pen.proofs.Pen.Laws as P′
 use Rattle.lent_pen.proofs.Parts.{pens, IsPen, pen-tells, pen-spelt, pen-typed, typed-pen, typed-outcome, owned-pen}
 use Rattle.lent_pen.proofs.Loans.{bytes-at, lends-image, image-back}
 use Rattle.lent_pen.proofs.Calls.{SaidSet, SaidEmit, SetPc, Emit, calls-set, calls-emit}
-use Rattle.segment.proofs.begin as begin
-use Rattle.segment.proofs.begin.Symbol as begin-code
-use Rattle.segment.proofs.begin.Met as begin-met
+use Rattle.pen.proofs.begin as begin
+use Rattle.pen.proofs.begin.Symbol as begin-code
+use Rattle.pen.proofs.begin.Met as begin-met
 use Rattle.lent_pen.proofs.set_pc.Symbol as set-code
 use Rattle.lent_pen.proofs.set_pc.Met as set-met
 use Rattle.lent_pen.proofs.emit.Symbol as emit-code
@@ -269,7 +269,7 @@ lend-spec 𝓤 H 𝓜 𝓖 𝓡 =
     entered 𝓤 H (tripleOf 𝓤 H (𝓖 .A) f.signature (f.spec 𝓤 H (𝓖 .A) (𝓜 .mem) (𝓡 .run)))
     (tables 𝓤 H 𝓜 𝓡 code.env .C) (tables 𝓤 H 𝓜 𝓡 code.env .Λ) name code.function (code.unfolded 𝓤 H 𝓜 𝓡)
     (meets 𝓤 H (𝓖 .A) (𝓜 .mem) (𝓡 .run) (givenOf 𝓤 H 𝓜 𝓖) (tablesOf 𝓤 H 𝓜 (tables 𝓤 H 𝓜 𝓡 code.env))
-    (cited 𝓤 H (Begin 𝓤 H (𝓖 .A) (𝓜 .mem) (𝓡 .run)) 𝓜 𝓡 code.env begin-code.name begin-code.routine code.calls-segment·begin
+    (cited 𝓤 H (Begin 𝓤 H (𝓖 .A) (𝓜 .mem) (𝓡 .run)) 𝓜 𝓡 code.env begin-code.name begin-code.routine code.calls-pen·begin
     (begin-met.met 𝓤 H 𝓜 𝓖 𝓡))
     (cited 𝓤 H (SetPc 𝓤 H (𝓖 .A) (𝓜 .mem) (𝓡 .run)) 𝓜 𝓡 code.env set-code.name set-code.routine code.calls-lent-pen·set-pc
     (set-met.met 𝓤 H 𝓜 𝓖 𝓡))

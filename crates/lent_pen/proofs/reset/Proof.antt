@@ -11,11 +11,11 @@ use Rattle.lent_pen.proofs.Walk.{returns, enter, alloc1, alloc0, params
 use Rattle.lent_pen.proofs.Walk.{owns, mem, RefT, MutRef, ptr-vals, mut-tells, plain, only, heard, nothing, onEntry, Meets}
 use Rattle.lent_pen.proofs.Walk.{tripleOf, Contract, Triple, calls-at, ensured, lasts, entered, cited, says, Stays, stay-ref}
 use Rattle.lent_pen.proofs.Walk.{walkOf, goes-ref, Walks, ends-at, walked, walk-meets}
-use Rattle.segment.specs.declared.Pen.{Pen}
+use Rattle.pen.specs.declared.Pen.{Pen}
 use Rattle.segment.specs.declared.Drawn.{Drawn}
 use Rattle.segment.specs.Segment as by-value
 use Rattle.segment.specs.Says.{saysDrawn, left}
-use Rattle.segment.proofs.Pen as P
+use Rattle.pen.proofs.Pen as P
 use Rattle.segment.proofs.Drawn as D
 use Rattle.segment.proofs.Drawn.Laws as D′
 use Rattle.lent_pen.proofs.Parts.{pens, outcomes, IsOutcome, drawn-tells, is-pen, is-answer, pen-typed, drawn-typed, outcome-typed}

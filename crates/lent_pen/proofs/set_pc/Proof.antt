@@ -12,11 +12,11 @@ use Rattle.lent_pen.proofs.Walk.{Body, owns, Is, mem, uint-vals, uint-t
 use Rattle.lent_pen.proofs.Walk.{mut-tells, plain, only, owned, heard, nothing, onEntry, Meets, tripleOf, Contract, Triple}
 use Rattle.lent_pen.proofs.Walk.{calls-at, ensured, lasts, entered, cited, says, Stays, stay-ref, stay-none, walkOf, goes-ref}
 use Rattle.lent_pen.proofs.Walk.{goes-none, Walks, ends-at, walked, walk-meets}
-use Rattle.segment.specs.declared.Pen.{Pen}
+use Rattle.pen.specs.declared.Pen.{Pen}
 use Rattle.segment.specs.declared.Drawn.{Drawn}
 use Rattle.segment.specs.Segment as by-value
 use Rattle.segment.specs.Says.{saysDrawn, left}
-use Rattle.segment.proofs.Pen as P
+use Rattle.pen.proofs.Pen as P
 use Rattle.segment.proofs.Drawn as D
 use Rattle.segment.proofs.Drawn.Laws as D′
 use Rattle.lent_pen.proofs.Parts.{pens, outcomes, IsOutcome, drawn-tells, is-pen, is-answer, pen-typed, drawn-typed, outcome-typed}

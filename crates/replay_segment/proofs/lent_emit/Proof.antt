@@ -11,8 +11,8 @@ use Rattle.lent_pen.proofs.Walk.{tripleOf, Triple, entered, cited, Stays, stay-
 use Rattle.lent_pen.proofs.Walk.{goes-gave-slice, goes-none-slice, Walks, ends-at, walked, walk-meets}
 use Rattle.refusals.specs.declared.Outcome.{Outcome}
 use Rattle.refusals.proofs.Outcome as O
-use Rattle.segment.specs.declared.Pen.{Pen}
-use Rattle.segment.proofs.Pen as P
+use Rattle.pen.specs.declared.Pen.{Pen}
+use Rattle.pen.proofs.Pen as P
 use Rattle.lent_pen.proofs.Parts.{pens, IsPen, pen-tells, pen-typed, typed-outcome, owned-pen}
 use Rattle.lent_pen.proofs.Calls.{Emit, calls-emit}
 use Rattle.lent_pen.proofs.emit.Symbol as callee-code

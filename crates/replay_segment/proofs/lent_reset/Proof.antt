@@ -8,8 +8,8 @@ use Rattle.lent_pen.proofs.Walk.{agg, owns, Is, yes, only, nothing, onEntry, Me
 use Rattle.lent_pen.proofs.Walk.{walkOf, goes-none, Walks, ends-at, walked, walk-meets}
 use Rattle.refusals.specs.declared.Outcome.{Outcome}
 use Rattle.refusals.proofs.Outcome as O
-use Rattle.segment.specs.declared.Pen.{Pen}
-use Rattle.segment.proofs.Pen as P
+use Rattle.pen.specs.declared.Pen.{Pen}
+use Rattle.pen.proofs.Pen as P
 use Rattle.lent_pen.proofs.Parts.{pens, IsPen, pen-tells, pen-typed, typed-outcome, owned-pen}
 use Rattle.lent_pen.proofs.Calls.{Reset, calls-reset}
 use Rattle.lent_pen.proofs.reset.Symbol as callee-code

@@ -9,8 +9,8 @@ use Rattle.lent_pen.proofs.Walk.{onEntry, Meets, tripleOf, Triple, entered, cit
 use Rattle.lent_pen.proofs.Walk.{walked, walk-meets}
 use Rattle.refusals.specs.declared.Outcome.{Outcome}
 use Rattle.refusals.proofs.Outcome as O
-use Rattle.segment.specs.declared.Pen.{Pen}
-use Rattle.segment.proofs.Pen as P
+use Rattle.pen.specs.declared.Pen.{Pen}
+use Rattle.pen.proofs.Pen as P
 use Rattle.lent_pen.proofs.Parts.{pens, IsPen, pen-tells, pen-typed, typed-outcome, owned-pen}
 use Rattle.lent_pen.proofs.Calls.{SetPc, calls-set}
 use Rattle.lent_pen.proofs.set_pc.Symbol as callee-code

@@ -3,9 +3,11 @@ use mathlib.Core.Path.{ap, _∙_}
 use Rattle.refusals.specs.Answer.{Done}
 use native.Mathlib.Omega.{arith}
 use borrow.Author.Needs.{needs}
-use Rattle.segment.proofs.Laws.{sound-over-has, fits-has, emit-refused, emit-done}
+use Rattle.pen.proofs.Laws.{sound-over-has, fits-has}
+use Rattle.segment.proofs.Laws.{emit-refused, emit-done}
 use Rattle.refusals.proofs.Pick.{granted, passed, stopped}
-use Rattle.segment.specs.Segment.{ofBoth, emit}
+use Rattle.pen.specs.Pens.{ofBoth}
+use Rattle.segment.specs.Segment.{emit}
 use Rattle.segment.proofs.emit.Statement.{statement}
 use Rattle.segment.proofs.emit.Tie as tie
 

@@ -3,7 +3,8 @@ use mathlib.Core.Path.{ap, _∙_}
 use Rattle.refusals.specs.Answer.{Done}
 use borrow.Author.Needs.{needs}
 use Rattle.refusals.proofs.Pick.{passed, stopped}
-use Rattle.segment.specs.Segment.{ofPen, reset}
+use Rattle.pen.specs.Pens.{ofPen}
+use Rattle.segment.specs.Segment.{reset}
 use Rattle.segment.specs.Says.{left}
 use Rattle.segment.proofs.reset.Statement.{statement}
 use Rattle.segment.proofs.reset.Tie as tie

@@ -5,7 +5,8 @@ use native.Mathlib.Omega.{arith}
 use borrow.Author.Needs.{needs}
 use borrow.Author.Tests.{le-leb, lt-leb}
 use Rattle.refusals.proofs.Pick.{at-true, at-false, passed, stopped}
-use Rattle.segment.specs.Segment.{size, ofPen, setPc}
+use Rattle.pen.specs.Pens.{size, ofPen}
+use Rattle.segment.specs.Segment.{setPc}
 use Rattle.segment.specs.Says.{left}
 use Rattle.segment.proofs.set_pc.Statement.{statement}
 use Rattle.segment.proofs.set_pc.Tie as tie

@@ -1,6 +1,6 @@
 -- A pen at its initial place is the one that a segment begins with. Assumes nothing.
 use mathlib.Core.Path.{refl}
-use Rattle.segment.specs.Segment.{begun}
+use Rattle.pen.specs.Pens.{begun}
 use Rattle.tries.proofs.begin.Statement.{statement}
 use Rattle.tries.proofs.begin.Tie as tie
 
