@@ -20,7 +20,7 @@ use Rattle.walk.proofs.Equal.{eqValue-same}
 use Rattle.passes.specs.Passes.{gives, pass, settled}
 use Rattle.passes.proofs.Passing.{gives-length}
 use Rattle.passes.proofs.Settles.{gives-back}
-use Rattle.tries.specs.declared.Compares.{Compares}
+use Rattle.compares.specs.declared.Compares.{Compares}
 use Rattle.tries.specs.Try.{compared, tryOf}
 use Rattle.tries.specs.Tries.{Trying, start, tryAt, tried, tries}
 use Rattle.tries.proofs.Passed.{tried-has}

@@ -36,7 +36,8 @@ use Rattle.tries.specs.Tries.{Trying, start, tries}
 use Rattle.tries.specs.Write.{rangeOf, saysWritten, imageOr}
 use Rattle.tries.proofs.Agrees.{tries-alike}
 use Rattle.number_list.proofs.Kept.{list-zeros}
-use Rattle.builder.specs.Build.{Build, builder, finished, triedWith, builtBy}
+use Rattle.compares.specs.Compared.{builder}
+use Rattle.builder.specs.Build.{Build, finished, triedWith, builtBy}
 use Rattle.builder.specs.Call.{Report, report, Memory, memory, left}
 use Rattle.builder.specs.Steps.{imageFrom, listFrom, finishedIn, triedIn}
 

@@ -25,11 +25,11 @@ use Rattle.walk.specs.Walk.{Origin, origin}
 use Rattle.walk.specs.Values.{Values, numbered}
 use Rattle.passes.specs.Passes.{limit, leastFrom, repeats, settledBy, settled}
 use Rattle.tries.specs.Tries.{start, tries}
-use Rattle.tries.specs.Try.{plain}
+use Rattle.compares.specs.Compared.{plain, builder}
 use Rattle.tries.proofs.Numbers.{tries-number}
 use Rattle.reads.specs.Reads.{readsOn}
 use Rattle.reads.proofs.Numbers.{computes}
-use Rattle.builder.specs.Build.{Build, builder, finished, triedWith, builtBy, built}
+use Rattle.builder.specs.Build.{Build, finished, triedWith, builtBy, built}
 use Rattle.builder.specs.Refusals.{refusals}
 use Rattle.builder.specs.Call.{Memory, isAllowed, left, buildOf}
 use Rattle.builder.proofs.Agrees.{settled-either}

@@ -4,7 +4,6 @@ use mathlib.Core.List.{List, map}
 use mathlib.Core.Option.{Option}
 use lib.IntN.{ℤ}
 use Rattle.refusals.specs.AnswerAt.{AnswerAt, mapped, andThen}
-use Rattle.refusals.specs.Table.{moved}
 use Rattle.symbols.specs.Symbols.{numberOr0}
 use Rattle.form.specs.Statements.{Statement, statements}
 use Rattle.evaluator.specs.Expression.{Value}
@@ -12,16 +11,12 @@ use Rattle.names.specs.Names.{namesOf}
 use Rattle.walk.specs.Walk.{Origin}
 use Rattle.walk.specs.Values.{Values, numbered}
 use Rattle.passes.specs.Passes.{settled}
-use Rattle.tries.specs.declared.Compares.{Compares}
+use Rattle.compares.specs.Compared.{builder}
 use Rattle.tries.specs.Tries.{Trying, start, tries}
 use Rattle.number_list.specs.Lists.{numberList}
 use Rattle.reads.specs.Reads.{readsOn}
 
 -- ---- the build
-
--- what it compares: "a label's place at the last walk is not its settled number"
-abbrev pub builder : Compares
-builder = record { label = moved; constant = 0 }
 
 -- where what is written starts and ends, the image, the number list, and how many passes there were
 pub record Build : Type 0 where

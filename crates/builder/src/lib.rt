@@ -3,10 +3,8 @@
 use form::LONGEST;
 use passes::Passes;
 use refusals::ARGUMENT;
-use refusals::MOVED;
 use refusals::OutcomeAt;
 use symbols::NODES;
-use tries::Compares;
 use tries::Written;
 use walk::Numbers;
 ghost use mathlib.Core.Path.{_≡_};
@@ -167,11 +165,7 @@ fn build_tried<'a>(
         × (now (image .exit) ≡ imageFrom (now (image .entry)) (triedIn (readsNoted (now (tape .entry)) (now (nodes .entry))) (statements (now (tape .entry))) (origin initial) passes numbers))
         × (now (list .exit) ≡ listFrom (now (list .entry)) (triedIn (readsNoted (now (tape .entry)) (now (nodes .entry))) (statements (now (tape .entry))) (origin initial) passes numbers)) ⌝ }
 {
-    let compares = Compares {
-        label: MOVED,
-        constant: 0,
-    };
-    match tries::write(tape, nodes, numbers, initial, compares, image) {
+    match tries::write(tape, nodes, numbers, initial, compares::builder(), image) {
         Written::Refused { number, at } => refused(number, at),
         Written::Range { start, end } => {
             let count = number_list::gather(tape, &numbers.number, list);

@@ -30,14 +30,16 @@ use Rattle.walk.proofs.Agrees.{Alike}
 use Rattle.walk.proofs.Columns.{by-node}
 use Rattle.tries.specs.Tries.{Trying, start, tries}
 use Rattle.tries.specs.Write.{triedAll, writeOf, rangeOf, imageOr}
-use Rattle.tries.proofs.Agrees.{tries-alike, write-allowed}
+use Rattle.tries.proofs.Agrees.{tries-alike, write-by, write-allowed}
 use Rattle.tries.proofs.Sound.{tries-sound}
 use Rattle.reads.specs.Reads.{readsOn}
 use Rattle.reads.proofs.Names.{declare-is}
 use Rattle.reads.proofs.Reading.{all-alike}
 use Rattle.number_list.specs.Lists.{count, valuesOf}
 use Rattle.number_list.proofs.Kept.{values-length}
-use Rattle.checker.specs.Check.{checker, covered, isWritten, judged, checkedBy, checked}
+use Rattle.compares.specs.declared.Compares.{Compares}
+use Rattle.compares.specs.Compared.{checker}
+use Rattle.checker.specs.Check.{covered, isWritten, judged, checkedBy, checked}
 use Rattle.checker.specs.Call.{isAllowed}
 
 -- ---- arguments
@@ -92,14 +94,15 @@ module _ (tape nodes : List ℕ) (initial : ℕ) (numbers : List ℤ) (from : �
   -- the numbers stand in arrays, and a and image′ are what the tries with them give
   module _ (asked : (length tape ≤ maxTape) × (initial ≤ size) × (declarations xs < 1024)) {n : ℕ} {held : Numbers}
       (spread : (n ≡ count xs) × (held ≡ numbersBy (valuesOf xs numbers)))
-      (image : List ℕ) (whole : length image ≡ size) {a : AnswerAt (ℕ × ℕ)} {image′ : List ℕ}
-      (told : (a ≡ mapped rangeOf (writeOf tape nodes held initial checker (length image)))
-      × (image′ ≡ imageOr image (writeOf tape nodes held initial checker (length image)))) where
-    by-arrays : writeOf tape nodes held initial checker (length image) ≡ all-tried
+      (image : List ℕ) (whole : length image ≡ size) {d : Compares} (d-is : d ≡ checker) {a : AnswerAt (ℕ × ℕ)} {image′ : List ℕ}
+      (told : (a ≡ mapped rangeOf (writeOf tape nodes held initial d (length image)))
+      × (image′ ≡ imageOr image (writeOf tape nodes held initial d (length image)))) where
+    by-arrays : writeOf tape nodes held initial d (length image) ≡ all-tried
     unfolding triedAll
     by-arrays =
         let short : length (valuesOf xs numbers) < 1024 = omega (arith, asked .2, values-length xs numbers) in
-        write-allowed tape nodes _ initial checker (asked .0) (asked .1) whole
+        write-by tape nodes held initial (length image) d-is
+        ∙ write-allowed tape nodes _ initial checker (asked .0) (asked .1) whole
         ∙ ap (λ (f : ℕ → Option ℤ). tries (readsNoted tape nodes) checker f (start (origin initial)) xs)
         (ap (λ (h : Numbers). numbersIn (h .known) (h .number)) (spread .1) ∙ by-node (valuesOf xs numbers) short)
 

@@ -16,17 +16,13 @@ use Rattle.evaluator.specs.Expression.{Value}
 use Rattle.names.specs.Names.{namesOf}
 use Rattle.walk.specs.Walk.{Origin}
 use Rattle.walk.specs.Values.{numbered, same}
-use Rattle.tries.specs.declared.Compares.{Compares}
+use Rattle.compares.specs.Compared.{checker}
 use Rattle.tries.specs.Tries as T
 use Rattle.tries.specs.Tries.{Trying, tries}
 use Rattle.number_list.specs.Lists.{count, valuesOf}
 use Rattle.reads.specs.Reads.{readsOn}
 
 -- ---- the check
-
--- what it compares: "with 17, for a constant's number too"
-abbrev pub checker : Compares
-checker = record { label = numberDiffers; constant = numberDiffers }
 
 -- the bytes of an image from a start to an end
 abbrev pub covered : (start end : ℕ) → List ℕ → List ℕ

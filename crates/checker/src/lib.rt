@@ -5,7 +5,6 @@ use refusals::ARGUMENT;
 use refusals::BYTES_DIFFER;
 use refusals::NUMBER_DIFFERS;
 use refusals::OutcomeAt;
-use tries::Compares;
 use tries::Written;
 ghost use mathlib.Core.Bool.{_&&_};
 ghost use mathlib.Core.Path.{_≡_};
@@ -97,13 +96,16 @@ fn check_numbers<'a>(
     if spread.count != numbers.len() {
         return refused(NUMBER_DIFFERS, 0);
     }
-    let compares = Compares {
-        label: NUMBER_DIFFERS,
-        constant: NUMBER_DIFFERS,
-    };
     let by_node = spread.numbers;
     let mut image = [0u8; SIZE];
-    match tries::write(tape, nodes, by_node, initial, compares, &mut image) {
+    match tries::write(
+        tape,
+        nodes,
+        by_node,
+        initial,
+        compares::checker(),
+        &mut image,
+    ) {
         Written::Refused { number, at } => refused(number, at),
         Written::Range { start: first, end } => judge(&image, first, end, start, bytes),
     }

@@ -32,13 +32,14 @@ use Rattle.tries.specs.Tries.{Trying, tries}
 use Rattle.tries.proofs.Sound.{tries-sound}
 use Rattle.reads.specs.Reads.{readsOn}
 use Rattle.number_list.specs.Lists.{numberList}
-use Rattle.builder.specs.Build.{Build, builder, built}
+use Rattle.compares.specs.Compared.{builder, checker}
+use Rattle.builder.specs.Build.{Build, built}
 use Rattle.builder.specs.Call as call
 use Rattle.builder.specs.Call.{Memory, report, left, buildOf}
 use Rattle.builder.proofs.Names.{allowed}
 use Rattle.builder.proofs.Kept.{finished-build}
 use Rattle.builder.proofs.Agrees.{tries-either}
-use Rattle.checker.specs.Check.{checker, covered, checkedBy, checked}
+use Rattle.checker.specs.Check.{covered, checkedBy, checked}
 use Rattle.checker.specs.Call.{checkOf}
 use Rattle.checker.proofs.Checks.{Allowed}
 use Rattle.demand.specs.Theorems.{Accepted, Counted}

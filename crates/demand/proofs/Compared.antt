@@ -17,9 +17,9 @@ use Rattle.form.specs.Statements.{What, Instruction, Open, Close, Label, Consta
 use Rattle.evaluator.specs.Expression.{Value, Number, Unresolved, Refuses}
 use Rattle.walk.specs.Values.{eqValue, declarations}
 use Rattle.walk.proofs.Equal.{eqValue-true, eqValue-same}
-use Rattle.tries.specs.Try.{compared, plain, tryOf}
+use Rattle.compares.specs.Compared.{plain, checker}
+use Rattle.tries.specs.Try.{compared, tryOf}
 use Rattle.number_list.specs.Lists.{counts, count, valued, valuesOf}
-use Rattle.checker.specs.Check.{checker}
 use Rattle.number_list.proofs.Kept.{valued-length}
 use Rattle.demand.specs.Demand.{statementAt}
 

@@ -21,7 +21,8 @@ use Rattle.walk.proofs.Equal.{same-true, same-same}
 use Rattle.tries.specs.Tries.{Trying, start, tries}
 use Rattle.reads.specs.Reads.{readsOn}
 use Rattle.number_list.specs.Lists.{count}
-use Rattle.checker.specs.Check.{checker, covered, isWritten, judged, checkedBy, checked}
+use Rattle.compares.specs.Compared.{checker}
+use Rattle.checker.specs.Check.{covered, isWritten, judged, checkedBy, checked}
 use Rattle.checker.specs.Call.{isAllowed, checkOf}
 use Rattle.checker.proofs.Checks.{Allowed, allowed}
 use Rattle.demand.specs.Demand.{numbers, writeAt, Fits, Demand}

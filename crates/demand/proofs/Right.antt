@@ -18,11 +18,10 @@ use Rattle.evaluator.specs.Expression.{Value}
 use Rattle.walk.specs.declared.Walk.{Walk}
 use Rattle.walk.specs.Walk.{Origin, begin, here, step}
 use Rattle.walk.specs.Values.{valueAt, stepAt, declarations}
-use Rattle.tries.specs.Try.{plain}
+use Rattle.compares.specs.Compared.{plain, checker}
 use Rattle.tries.specs.Tries.{Page, blank, start, Trying, trying, tryAt, tried, tries}
 use Rattle.tries.proofs.Passed.{tried-has, tried-is}
 use Rattle.number_list.specs.Lists.{counts, valuesOf}
-use Rattle.checker.specs.Check.{checker}
 use Rattle.demand.specs.Demand.{behind, statementAt, numbers, walkAt, ownAt, writeAt, Right}
 use Rattle.demand.proofs.Compared.{Numbered, try-right, own-value}
 use Rattle.demand.proofs.Pages.{Holds, holds-blank, draws, drew}

@@ -17,7 +17,7 @@ use Rattle.walk.specs.declared.Walk.{Walk}
 use Rattle.walk.specs.Walk.{here, namesIn}
 use Rattle.walk.specs.Values.{Values, numberOf, valueAt, stepAt}
 use Rattle.passes.specs.Passes.{gives, pass}
-use Rattle.tries.specs.declared.Compares.{Compares}
+use Rattle.compares.specs.declared.Compares.{Compares}
 use Rattle.tries.specs.Try.{tryOf}
 use Rattle.tries.specs.Tries.{Trying, tryAt, tried, tries}
 use Rattle.tries.proofs.Passed.{tried-has}

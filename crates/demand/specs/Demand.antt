@@ -19,7 +19,7 @@ use Rattle.names.specs.Names.{namesOf}
 use Rattle.walk.specs.declared.Walk.{Walk}
 use Rattle.walk.specs.Walk.{Origin, origin, begin, here}
 use Rattle.walk.specs.Values.{numbered, stepAt}
-use Rattle.tries.specs.Try.{plain}
+use Rattle.compares.specs.Compared.{plain}
 use Rattle.tries.specs.Tries.{tryAt}
 use Rattle.reads.specs.Reads.{readsOn}
 use Rattle.number_list.specs.Lists.{count, valuesOf}

@@ -26,14 +26,15 @@ use Rattle.walk.proofs.Columns.{by-node}
 use Rattle.passes.specs.Passes.{settled}
 use Rattle.passes.proofs.Agrees.{settled-alike}
 use Rattle.passes.proofs.Settles.{least, passes-length}
-use Rattle.tries.specs.Try.{plain, tryOf}
+use Rattle.compares.specs.Compared.{plain, builder}
+use Rattle.tries.specs.Try.{tryOf}
 use Rattle.tries.specs.Tries.{Trying, start, tryAt, tries}
 use Rattle.tries.specs.Write.{triedAll}
 use Rattle.tries.proofs.Agrees.{tries-alike, write-allowed}
 use Rattle.reads.specs.Reads.{readsOn}
 use Rattle.reads.proofs.Names.{declare-is}
 use Rattle.reads.proofs.Reading.{all-alike}
-use Rattle.builder.specs.Build.{builder, finished}
+use Rattle.builder.specs.Build.{finished}
 use Rattle.record_lines.specs.Records.{lineOf, lines, recorded}
 use Rattle.listing.specs.Listing.{listedWith, listedBy, listed}
 

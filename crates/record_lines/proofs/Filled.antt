@@ -27,7 +27,7 @@ use Rattle.tries.specs.declared.Written as W
 use Rattle.tries.specs.declared.Written.the-variants as written
 use Rattle.tries.specs.Tries.{Trying}
 use Rattle.tries.specs.Write.{isAllowed, triedAll, writeOf, rangeOf, saysWritten}
-use Rattle.builder.specs.Build.{builder}
+use Rattle.compares.specs.Compared.{builder}
 use Rattle.record_lines.specs.Records.{lines, said, recorded}
 use Rattle.record_lines.specs.Steps.{AllPass}
 

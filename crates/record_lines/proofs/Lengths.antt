@@ -15,7 +15,7 @@ use Rattle.evaluator.specs.Expression.{Value}
 use Rattle.walk.specs.declared.Walk.{Walk}
 use Rattle.walk.specs.Walk.{here}
 use Rattle.walk.specs.Values.{valueAt, stepAt}
-use Rattle.tries.specs.Try.{plain}
+use Rattle.compares.specs.Compared.{plain}
 use Rattle.tries.specs.Tries.{tryAt}
 use Rattle.tries.proofs.Lengths.{try-short}
 use Rattle.record_lines.specs.Records.{mnemonicOf, lineOf, bytesAt, lines}

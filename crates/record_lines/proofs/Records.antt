@@ -28,10 +28,11 @@ use Rattle.walk.specs.declared.Walk.{Walk}
 use Rattle.walk.specs.Walk.{here, step}
 use Rattle.walk.specs.Values.{eqValue, numberOf, valueAt}
 use Rattle.walk.specs.Numbers.{readsNoted, valueOf}
-use Rattle.tries.specs.declared.Compares.{Compares}
+use Rattle.compares.specs.declared.Compares.{Compares}
 use Rattle.tries.specs.declared.Tried as T
 use Rattle.tries.specs.declared.Tried.the-variants as cases
-use Rattle.tries.specs.Try.{plain, tryOf}
+use Rattle.compares.specs.Compared.{plain}
+use Rattle.tries.specs.Try.{tryOf}
 use Rattle.tries.specs.Tries.{Trying, tryAt, tried}
 use Rattle.tries.specs.Write.{saysTried}
 use Rattle.tries.specs.Steps.{placeBehind, walkBehind, triedOver}
@@ -69,6 +70,10 @@ module _ (c : Compares) (own other : Option ℤ) (place : ℤ) (at : ℕ) where
 abbrev alone : ℤ → ℕ → List ℕ → Value → AnswerAt (List ℕ)
 alone z at r v = tryOf plain none z at (whatOf r) v
 
+tried-alone : {x : AnswerAt Code} {d : Compares} (z : ℤ) (at : ℕ) (r : List ℕ) (v : Value) → d ≡ plain
+    → x ≡ At.mapped code (tryOf d none z at (whatOf r) v) → x ≡ At.mapped code (alone z at r v)
+tried-alone z at r v is told = told ∙ ap (λ (d : Compares). At.mapped code (tryOf d none z at (whatOf r) v)) is
+
 -- none where it is a part of an expression
 abbrev pub bytesHere : ℕ → ℕ → List ℕ → Value → List ℕ
 bytesHere place at r v = pick (isInner r) [] (part (alone (pos place) at r v))
@@ -83,16 +88,15 @@ module _ (place at : ℕ) (r : List ℕ) (v : Value) {k : Code} {t : Bool} (is :
     bytes-outer h =
         h ∙ ap (λ (y : ℤ). code (part (alone y at r v))) z-is ∙ ap code (at-false [] (part (alone (pos place) at r v)) (sym is ∙ e))
 
-    -- x: what the try answers
-    module _ {x : T.Tried} where
-      pub bytes-refused : {n i : ℕ} → x ≡ cases.Refused n i → saysTried x ≡ At.mapped code (alone z at r v) → k ≡ code []
-          → k ≡ code (bytesHere place at r v)
-      bytes-refused {n} {i} x-is f h =
-          let fault = fault-code (alone z at r v) n i (sym (ap saysTried x-is) ∙ f) in
+    -- x: what the try answers, which compares nothing
+    module _ {x : T.Tried} {d : Compares} (d-is : d ≡ plain) (told : saysTried x ≡ At.mapped code (tryOf d none z at (whatOf r) v)) where
+      pub bytes-refused : {n i : ℕ} → x ≡ cases.Refused n i → k ≡ code [] → k ≡ code (bytesHere place at r v)
+      bytes-refused {n} {i} x-is h =
+          let fault = fault-code (alone z at r v) n i (sym (ap saysTried x-is) ∙ tried-alone z at r v d-is told) in
           bytes-outer (h ∙ ap (λ (a : AnswerAt (List ℕ)). code (part a)) (sym fault))
 
-      pub bytes-fine : x ≡ cases.Bytes k → saysTried x ≡ At.mapped code (alone z at r v) → k ≡ code (bytesHere place at r v)
-      bytes-fine x-is f = bytes-outer (fine-code (alone z at r v) k (sym (ap saysTried x-is) ∙ f) .1)
+      pub bytes-fine : x ≡ cases.Bytes k → k ≡ code (bytesHere place at r v)
+      bytes-fine x-is = bytes-outer (fine-code (alone z at r v) k (sym (ap saysTried x-is) ∙ tried-alone z at r v d-is told) .1)
 
 -- ---- behind it
 

@@ -25,7 +25,7 @@ use Rattle.tries.specs.Tries.{Page, Trying, trying, start, tries}
 use Rattle.tries.specs.Steps.{bytesIn, placeBehind, triedOver}
 use Rattle.tries.proofs.Walking.{over-low, over-one}
 use Rattle.tries.proofs.Advancing.{bytes-code}
-use Rattle.builder.specs.Build.{builder}
+use Rattle.compares.specs.Compared.{builder}
 use Rattle.record_lines.specs.Records.{lineOf, lines}
 use Rattle.record_lines.specs.Steps.{AllPass}
 use Rattle.record_lines.proofs.Records.{bytesHere, Behind, behind}

@@ -15,10 +15,9 @@ use Rattle.walk.specs.declared.Walk.{Walk}
 use Rattle.walk.specs.Walk.{origin, begin}
 use Rattle.walk.specs.Values.{stepAt}
 use Rattle.walk.specs.Numbers.{numbersIn, readsNoted}
-use Rattle.tries.specs.Try.{plain}
+use Rattle.compares.specs.Compared.{plain, builder}
 use Rattle.tries.specs.Tries.{tryAt}
 use Rattle.tries.specs.Write.{writeOf}
-use Rattle.builder.specs.Build.{builder}
 
 -- ---- a line for each record that writes
 

@@ -9,7 +9,7 @@ use Rattle.form.specs.Statements.{Statement}
 use Rattle.evaluator.specs.Expression.{Value}
 use Rattle.walk.specs.Walk.{Origin}
 use Rattle.tries.specs.Tries.{Trying, start, tries}
-use Rattle.builder.specs.Build.{builder}
+use Rattle.compares.specs.Compared.{builder}
 
 module _ (reads : (ℕ → Option ℤ) → ℤ → ℕ → Value) where
   -- every statement passes its try

@@ -4,12 +4,10 @@
 use evaluator::Value;
 use mnemonics::DATA;
 use opcodes::Code;
-use refusals::MOVED;
 use symbols::Data;
 use symbols::NODES;
 use tape::INSTRUCTION;
 use tape::SET_PLACE;
-use tries::Compares;
 use tries::Tried;
 use tries::Written;
 use walk::Numbers;
@@ -30,10 +28,10 @@ ghost use Rattle.form.specs.Statements.{whatOf, isInner, statements};
 ghost use Rattle.evaluator.specs.Says.{saysValue};
 ghost use Rattle.walk.specs.Walk.{origin, begin};
 ghost use Rattle.walk.specs.Numbers.{numbersIn, readsNoted};
-ghost use Rattle.tries.specs.Try.{plain, tryOf};
+ghost use Rattle.compares.specs.Compared.{plain, builder};
+ghost use Rattle.tries.specs.Try.{tryOf};
 ghost use Rattle.tries.specs.Steps.{bytesIn, placeBehind};
 ghost use Rattle.tries.specs.Write.{writeOf, rangeOf, saysWritten};
-ghost use Rattle.builder.specs.Build.{builder};
 ghost use Rattle.record_lines.specs.Records.{mnemonicOf, lineOf, lines, said, recorded};
 ghost use Rattle.record_lines.specs.Steps.{AllPass};
 
@@ -66,12 +64,15 @@ fn tried<'a>(tape: &'a [u8], nodes: &'a [u16], numbers: Numbers, initial: usize)
     ensures { λ r. ⌜ saysWritten r
         ≡ mapped rangeOf (writeOf (now (tape .entry)) (now (nodes .entry)) numbers initial builder size) ⌝ }
 {
-    let compares = Compares {
-        label: MOVED,
-        constant: 0,
-    };
     let mut image = [0u8; SIZE];
-    tries::write(tape, nodes, numbers, initial, compares, &mut image)
+    tries::write(
+        tape,
+        nodes,
+        numbers,
+        initial,
+        compares::builder(),
+        &mut image,
+    )
 }
 
 // A line for each record that writes. Every statement has passed its try.
@@ -116,11 +117,14 @@ fn bytes_of(rec: &[u8], at: usize, place: usize, value: Value) -> Code
     if form::is_inner(rec) {
         return no_bytes();
     }
-    let plain = Compares {
-        label: 0,
-        constant: 0,
-    };
-    match tries::attempt(plain, Data::Unresolved, place as i64, rec, at, value) {
+    match tries::attempt(
+        compares::plain(),
+        Data::Unresolved,
+        place as i64,
+        rec,
+        at,
+        value,
+    ) {
         Tried::Refused { .. } => no_bytes(),
         Tried::Bytes(bytes) => bytes,
     }

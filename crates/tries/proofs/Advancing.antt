@@ -19,7 +19,7 @@ use Rattle.walk.specs.declared.Walk.{Walk}
 use Rattle.walk.specs.Walk.{here, step}
 use Rattle.walk.specs.Values.{numberOf, valueAt, stepAt}
 use Rattle.walk.specs.Numbers.{readsNoted, valueOf}
-use Rattle.tries.specs.declared.Compares.{Compares}
+use Rattle.compares.specs.declared.Compares.{Compares}
 use Rattle.tries.specs.Try.{tryOf}
 use Rattle.tries.specs.Tries.{Page, drawn, Trying, trying, tryAt, tried}
 use Rattle.tries.specs.Steps.{bytesIn, walkBehind, triedOver}

@@ -15,7 +15,7 @@ use Rattle.evaluator.specs.Expression.{Value}
 use Rattle.walk.specs.declared.Numbers.{Numbers}
 use Rattle.walk.specs.Walk.{here}
 use Rattle.walk.proofs.Agrees.{Alike}
-use Rattle.tries.specs.declared.Compares.{Compares}
+use Rattle.compares.specs.declared.Compares.{Compares}
 use Rattle.tries.specs.Tries.{Trying, tryAt, tried, tries}
 use Rattle.tries.specs.Write.{isAllowed, triedAll, writeOf}
 
@@ -40,6 +40,11 @@ module _ (r s : Reads) (c : Compares) (numbers : ℕ → Option ℤ) where
       go rest (Fault n at) = refl
 
 -- ---- the call
+
+-- the same is compared: the same is written
+pub write-by : (tape nodes : List ℕ) (numbers : Numbers) (initial room : ℕ) {c d : Compares} → c ≡ d
+    → writeOf tape nodes numbers initial c room ≡ writeOf tape nodes numbers initial d room
+write-by tape nodes numbers initial room is = ap (λ (c : Compares). writeOf tape nodes numbers initial c room) is
 
 module _ (tape nodes : List ℕ) (numbers : Numbers) (initial : ℕ) (c : Compares) where
   pub write-allowed : length tape ≤ maxTape → initial ≤ size → {n : ℕ} → n ≡ size

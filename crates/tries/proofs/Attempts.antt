@@ -29,7 +29,7 @@ use Rattle.evaluator.specs.declared.Value.the-variants as came
 use Rattle.evaluator.specs.Expression.{Value, Number, Unresolved, Refuses}
 use Rattle.evaluator.specs.Says.{saysValue}
 use Rattle.walk.specs.Walk.{isPlace}
-use Rattle.tries.specs.declared.Compares.{Compares}
+use Rattle.compares.specs.declared.Compares.{Compares}
 use Rattle.tries.specs.Try.{given, compared, instructionOf, tryOf}
 
 -- ---- what a record r of kind k says

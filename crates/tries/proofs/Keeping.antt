@@ -9,7 +9,7 @@ use Rattle.refusals.specs.AnswerAt.{Fine}
 use Rattle.refusals.proofs.Answers.{fine-value, fine-then}
 use Rattle.form.specs.Statements.{Statement}
 use Rattle.evaluator.specs.Expression.{Value}
-use Rattle.tries.specs.declared.Compares.{Compares}
+use Rattle.compares.specs.declared.Compares.{Compares}
 use Rattle.tries.specs.Tries.{Page, drawn, Trying, tried, tries}
 use Rattle.tries.proofs.Passed.{tried-has}
 

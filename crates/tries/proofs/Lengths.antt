@@ -29,7 +29,7 @@ use Rattle.walk.specs.declared.Walk.{Walk}
 use Rattle.walk.specs.Walk.{walk, isPlace, formLength, lengthIn, movedTo, placeAfter, step}
 use Rattle.walk.specs.Values.{numberOf, eqValue}
 use Rattle.walk.proofs.Records.{names-said, place-set, place-other, few-bytes}
-use Rattle.tries.specs.declared.Compares.{Compares}
+use Rattle.compares.specs.declared.Compares.{Compares}
 use Rattle.tries.specs.Try.{given, compared, instructionOf, tryOf}
 use Rattle.tries.specs.Steps.{placeBehind, walkBehind}
 

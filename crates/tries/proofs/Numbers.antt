@@ -40,7 +40,7 @@ use Rattle.evaluator.specs.Expression.{Value, Number, Unresolved, Refuses}
 use Rattle.evaluator.specs.Accepted.{Computed}
 use Rattle.walk.specs.Walk.{Origin, isPlace, here}
 use Rattle.walk.specs.Values.{eqValue, valueAt, stepAt}
-use Rattle.tries.specs.declared.Compares.{Compares}
+use Rattle.compares.specs.declared.Compares.{Compares}
 use Rattle.tries.specs.Try.{given, compared, instructionOf, tryOf}
 use Rattle.tries.specs.Tries.{Page, page, drawn, Trying, trying, start, tryAt, tried, tries}
 use Rattle.tries.specs.Steps.{triedOver}

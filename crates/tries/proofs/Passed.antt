@@ -11,7 +11,7 @@ use Rattle.refusals.proofs.Answers.{fine-then}
 use Rattle.form.specs.Statements.{Statement, placed}
 use Rattle.evaluator.specs.Expression.{Value}
 use Rattle.walk.specs.Values.{stepAt}
-use Rattle.tries.specs.declared.Compares.{Compares}
+use Rattle.compares.specs.declared.Compares.{Compares}
 use Rattle.tries.specs.Tries.{Page, drawn, Trying, trying, tryAt, tried}
 
 -- an answer at an offset, whose value is handed over in another form

@@ -20,7 +20,7 @@ use Rattle.segment.proofs.Kept.{emit-sound, emit-length}
 use Rattle.form.specs.Statements.{Statement}
 use Rattle.evaluator.specs.Expression.{Value}
 use Rattle.walk.specs.Walk.{Origin}
-use Rattle.tries.specs.declared.Compares.{Compares}
+use Rattle.compares.specs.declared.Compares.{Compares}
 use Rattle.tries.specs.Tries.{Page, page, blank, Trying, start, tries}
 use Rattle.tries.proofs.Keeping.{Kept, kept-tries}
 

@@ -30,7 +30,7 @@ use Rattle.walk.specs.Walk.{origin, walk, here, lengthIn, placeAfter, namesIn, 
 use Rattle.walk.specs.Values.{numberOf, valueAt}
 use Rattle.walk.specs.Numbers.{readsNoted}
 use Rattle.walk.proofs.Records.{names-said, moved-most}
-use Rattle.tries.specs.declared.Compares.{Compares}
+use Rattle.compares.specs.declared.Compares.{Compares}
 use Rattle.tries.specs.declared.Stepped.{Stepped}
 use Rattle.tries.specs.Tries.{Page, page, drawn, Trying, trying, start, tryAt, tried, tries}
 use Rattle.tries.specs.Write.{rangeOf, imageOr}

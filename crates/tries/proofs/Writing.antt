@@ -13,7 +13,7 @@ use Rattle.refusals.proofs.Pick.{at-true, at-false}
 use Rattle.form.specs.Form.{maxTape}
 use Rattle.walk.specs.declared.Numbers.{Numbers}
 use Rattle.walk.specs.Numbers.{numbersIn}
-use Rattle.tries.specs.declared.Compares.{Compares}
+use Rattle.compares.specs.declared.Compares.{Compares}
 use Rattle.tries.specs.declared.Written as W
 use Rattle.tries.specs.declared.Written.the-variants as written
 use Rattle.tries.specs.Tries.{Trying}

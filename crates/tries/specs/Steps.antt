@@ -21,7 +21,7 @@ use Rattle.evaluator.specs.Expression.{Value}
 use Rattle.walk.specs.declared.Walk.{Walk}
 use Rattle.walk.specs.Walk.{walk, movedTo}
 use Rattle.walk.specs.Values.{numberOf}
-use Rattle.tries.specs.declared.Compares.{Compares}
+use Rattle.compares.specs.declared.Compares.{Compares}
 use Rattle.tries.specs.declared.Stepped.{Stepped}
 use Rattle.tries.specs.Tries.{Page, page, Trying, trying, tried}
 

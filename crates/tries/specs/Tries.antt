@@ -15,7 +15,7 @@ use Rattle.evaluator.specs.Expression.{Value}
 use Rattle.walk.specs.declared.Walk.{Walk}
 use Rattle.walk.specs.Walk.{Origin, begin, here}
 use Rattle.walk.specs.Values.{valueAt, stepAt}
-use Rattle.tries.specs.declared.Compares.{Compares}
+use Rattle.compares.specs.declared.Compares.{Compares}
 use Rattle.tries.specs.Try.{tryOf}
 
 -- ---- what is written

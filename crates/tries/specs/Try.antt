@@ -18,7 +18,7 @@ use Rattle.form.specs.Statements.{What, Instruction, Open, Close, Label, Consta
 use Rattle.evaluator.specs.Expression.{Value, Number, Unresolved, Refuses}
 use Rattle.walk.specs.Walk.{isPlace}
 use Rattle.walk.specs.Values.{eqValue}
-use Rattle.tries.specs.declared.Compares.{Compares}
+use Rattle.compares.specs.declared.Compares.{Compares}
 
 -- ---- what an expression gives
 
@@ -33,10 +33,6 @@ given at (Refuses n i) f = Fault n at
 -- a number with the one in the list, by the refusal that a difference gives; 0: it is not compared
 abbrev pub compared : (number : ℕ) → Option ℤ → ℤ → ℕ → AnswerAt (List ℕ)
 compared number own z at = pick (eqb number 0 || eqValue own (some z)) (Fine []) (Fault number at)
-
--- no number is compared: what is refused then is refused for itself
-abbrev pub plain : Compares
-plain = record { label = 0; constant = 0 }
 
 -- ---- the bytes
 

@@ -14,7 +14,7 @@ use Rattle.form.specs.Statements.{statements}
 use Rattle.walk.specs.declared.Numbers.{Numbers}
 use Rattle.walk.specs.Walk.{origin}
 use Rattle.walk.specs.Numbers.{numbersIn, readsNoted}
-use Rattle.tries.specs.declared.Compares.{Compares}
+use Rattle.compares.specs.declared.Compares.{Compares}
 use Rattle.tries.specs.declared.Tried as T
 use Rattle.tries.specs.declared.Tried.the-variants as cases
 use Rattle.tries.specs.declared.Written as W

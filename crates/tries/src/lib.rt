@@ -1,6 +1,7 @@
 // The last walk over a tape: each statement is tried, in tape order, and what it writes is drawn into an image. The lent image is
 // written once every statement has passed.
 use branch::Distance;
+use compares::Compares;
 use evaluator::Value;
 use form::LONGEST;
 use opcodes::Code;
@@ -49,12 +50,6 @@ ghost use Rattle.tries.specs.Steps.{bytesIn, saysDrawn, saysStepped, pla
 
 // How many bytes an image has; also the greatest place.
 const SIZE: usize = 65536;
-
-// By which refusal a number is compared with the one in the list: a label's place, and a constant's expression. 0: it is not.
-pub struct Compares {
-    pub label: u8,
-    pub constant: u8,
-}
 
 // Where what is written starts and ends, or the refusal.
 pub enum Written {

@@ -33,6 +33,9 @@ returns c =
     ∙ numbers-differ (args .tape .now) (args .nodes .now) (args .initial) (args .numbers .now) (args .start) (args .bytes .now)
     (told .0) (c .before .if1 .taken)
 
+checker-requires : tie.Need-checker-requires
+checker-requires c κs = tt
+
 slice-aggregate-write : tie.Need-slice-aggregate-write
 slice-aggregate-write c = sym whole
 
@@ -55,38 +58,41 @@ judge-requires : tie.Need-judge-requires
 judge-requires c κs =
     let range = c .before .before in
     let written = range .before .before .before in
-    let spread = written .before .before .before .before .before in
+    let made = written .before .before in
+    let spread = made .before .before .before .before in
     let given = spread .before .before .before .before in
     let args = given .args in
     let told = spread-told (args .tape .now) (args .numbers .now) (spread .spread .ensures) (given .pre .2) in
     range-inside (args .tape .now) (args .nodes .now) (args .initial) (args .numbers .now) (args .start) (args .bytes .now) (given .pre)
-    told blank whole (written .write .ensures) (ap saysWritten (range .first .given .1))
+    told blank whole (made .checker .ensures) (written .write .ensures) (ap saysWritten (range .first .given .1))
 
 returns-2 : tie.Need-returns-2
 returns-2 c =
     let no = c .before .before in
     let written = no .before .before .before in
-    let fitting = written .before .before .before in
+    let made = written .before .before in
+    let fitting = made .before .before in
     let spread = fitting .before .before in
     let given = spread .before .before .before .before in
     let args = given .args in
     let told = spread-told (args .tape .now) (args .numbers .now) (spread .spread .ensures) (given .pre .2) in
     c .refused2 .ensures
     ∙ tries-refused (args .tape .now) (args .nodes .now) (args .initial) (args .numbers .now) (args .start) (args .bytes .now) (given .pre)
-    told blank whole (written .write .ensures) (fitting .if1 .left) (ap saysWritten (no .number .given .1))
+    told blank whole (made .checker .ensures) (written .write .ensures) (fitting .if1 .left) (ap saysWritten (no .number .given .1))
 
 returns-3 : tie.Need-returns-3
 returns-3 c =
     let range = c .before .before .before in
     let written = range .before .before .before in
-    let fitting = written .before .before .before in
+    let made = written .before .before in
+    let fitting = made .before .before in
     let spread = fitting .before .before in
     let given = spread .before .before .before .before in
     let args = given .args in
     let told = spread-told (args .tape .now) (args .numbers .now) (spread .spread .ensures) (given .pre .2) in
     c .judge .ensures
     ∙ range-judged (args .tape .now) (args .nodes .now) (args .initial) (args .numbers .now) (args .start) (args .bytes .now) (given .pre)
-    told blank whole (written .write .ensures) (ap saysWritten (range .first .given .1)) (fitting .if1 .left)
+    told blank whole (made .checker .ensures) (written .write .ensures) (ap saysWritten (range .first .given .1)) (fitting .if1 .left)
 
 pub check-numbers-spec : {M : Type 1} → statement M
 check-numbers-spec =
@@ -95,6 +101,7 @@ check-numbers-spec =
     spread-requires
     refused-requires
     returns
+    checker-requires
     slice-aggregate-write
     write-requires
     enum-known-number

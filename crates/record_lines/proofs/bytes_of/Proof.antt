@@ -22,6 +22,9 @@ returns c =
     bytes-inner (args .place) (args .at) (now (args .rec)) (saysValue (args .value)) (asked .is-inner .ensures) (c .before .if1 .taken)
     (c .no-bytes .ensures)
 
+plain-requires : tie.Need-plain-requires
+plain-requires c κs = search needs
+
 cast-attempt : tie.Need-cast-attempt
 cast-attempt c = search needs
 
@@ -41,23 +44,25 @@ returns-2 : tie.Need-returns-2
 returns-2 c =
     let told = c .before in
     let attempted = told .before .before in
-    let asked = attempted .before .before in
+    let outside = attempted .before .before in
+    let asked = outside .before in
     let given = asked .before .before in
     let args = given .args in
     bytes-refused (args .place) (args .at) (now (args .rec)) (saysValue (args .value)) (asked .is-inner .ensures)
-    (attempted .before .if1 .left) (toZ-pos w64 (omega (arith, given .pre)))
-    (told .enum-told .given .1) (attempted .attempt .ensures) (c .no-bytes2 .ensures)
+    (outside .if1 .left) (toZ-pos w64 (omega (arith, given .pre))) (attempted .before .plain .ensures) (attempted .attempt .ensures)
+    (told .enum-told .given .1) (c .no-bytes2 .ensures)
 
 returns-3 : tie.Need-returns-3
 returns-3 c =
     let told = c .before in
     let attempted = told .before .before in
-    let asked = attempted .before .before in
+    let outside = attempted .before .before in
+    let asked = outside .before in
     let given = asked .before .before in
     let args = given .args in
     bytes-fine (args .place) (args .at) (now (args .rec)) (saysValue (args .value)) (asked .is-inner .ensures)
-    (attempted .before .if1 .left) (toZ-pos w64 (omega (arith, given .pre)))
-    (told .bytes .given .1) (attempted .attempt .ensures)
+    (outside .if1 .left) (toZ-pos w64 (omega (arith, given .pre))) (attempted .before .plain .ensures) (attempted .attempt .ensures)
+    (told .bytes .given .1)
 
 pub bytes-of-spec : {M : Type 1} → statement M
 bytes-of-spec =
@@ -66,6 +71,7 @@ bytes-of-spec =
     is-inner-requires
     no-bytes-requires
     returns
+    plain-requires
     cast-attempt
     attempt-requires
     enum-told

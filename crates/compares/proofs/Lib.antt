@@ -1,0 +1,2 @@
+-- That each call allows one answer.
+pub mod Unique
