@@ -45,7 +45,10 @@ fn obey(line: &[u8], pen: Pen, map: &mut [u32]) -> Pen {
 
 // Asks of a pen, or of a map.
 fn ask(line: &[u8], pen: Pen, map: &mut [u32]) {
-    match script::command(line, b"new set_pc calls emit range_data runs map entry fill add at move") {
+    match script::command(
+        line,
+        b"new set_pc calls emit range_data runs map entry fill add at move",
+    ) {
         0 => pens::new(line),
         1 => pens::set_pc(line, pen),
         2 => pens::calls(line, pen),
