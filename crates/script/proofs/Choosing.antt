@@ -18,18 +18,18 @@ module _ (line names : List ℕ) (i count : ℕ) where
   beyond = commandFrom line names (i + 1) (count - (i + 1))
 
   -- a name
-  module _ (h : i < count) {name : List ℕ} {r : Bool} (is : name ≡ wordOf i names) (tells : r ≡ isCommand line name) where
+  module _ (h : i < count) {l : List ℕ} {r : Bool} (is : l ≡ wordOf i names) (e : r ≡ isCommand line l) where
     next-name : here ≡ pick (isCommand line (wordOf i names)) i beyond
-    next-name = let e : count - i ≡ suc (count - (i + 1)) = omega arith in ap (commandFrom line names i) e
+    next-name = let more : count - i ≡ suc (count - (i + 1)) = omega arith in ap (commandFrom line names i) more
 
     tested : {b : Bool} → r ≡ b → isCommand line (wordOf i names) ≡ b
-    tested e = ap (isCommand line) (sym is) ∙ sym tells ∙ e
+    tested b = ap (isCommand line) (sym is) ∙ sym e ∙ b
 
     pub chosen : r ≡ true → i ≡ here
-    chosen e = at-true i beyond (tested e) ∙ sym next-name
+    chosen b = at-true i beyond (tested b) ∙ sym next-name
 
     pub passed-over : r ≡ false → beyond ≡ here
-    passed-over e = at-false i beyond (tested e) ∙ sym next-name
+    passed-over b = at-false i beyond (tested b) ∙ sym next-name
 
   -- none
   pub no-name : count ≤ i → i ≡ here

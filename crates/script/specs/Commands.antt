@@ -11,10 +11,12 @@ use Rattle.script.specs.Words.{wordOf, wordsIn}
 abbrev pub isCommand : List ℕ → List ℕ → Bool
 isCommand line command = same (wordOf 0 line) command
 
--- the number of the first name that is a line's command, of so many names from one on; the number behind them where none is
+-- the number of the first name that is a line's command, of so many names from one on; where none is, the
+-- number behind them
 abbrev pub commandFrom : List ℕ → List ℕ → ℕ → ℕ → ℕ
 commandFrom line names i zero = i
-commandFrom line names i (suc left) = pick (isCommand line (wordOf i names)) i (commandFrom line names (i + 1) left)
+commandFrom line names i (suc left) =
+    pick (isCommand line (wordOf i names)) i (commandFrom line names (i + 1) left)
 
 -- of all names, which are words of one line
 abbrev pub commandOf : List ℕ → List ℕ → ℕ

@@ -33,7 +33,8 @@ returns c =
     let so-far = turn .before .loop in
     let start = turn .before .before in
     let args = start .before .before .before .args in
-    chosen _ _ (so-far .i) _ (turn .loop-test .taken) (named .word .ensures) (asked .is-command .ensures) (c .if1 .taken)
+    let tells = asked .is-command .ensures in
+    chosen _ _ (so-far .i) _ (turn .loop-test .taken) (named .word .ensures) tells (c .if1 .taken)
     ∙ so-far .inv
     ∙ ap (commandFrom (args .line .now) (args .names .now) 0) (start .words .ensures)
 
@@ -49,7 +50,8 @@ loop-again c =
     let named = asked .before in
     let turn = named .before in
     let so-far = turn .before .loop in
-    passed-over _ _ (so-far .i) _ (turn .loop-test .taken) (named .word .ensures) (asked .is-command .ensures) (c .if1 .left)
+    let tells = asked .is-command .ensures in
+    passed-over _ _ (so-far .i) _ (turn .loop-test .taken) (named .word .ensures) tells (c .if1 .left)
     ∙ so-far .inv
 
 returns-2 : tie.Need-returns-2 Inv-loop μ-loop
