@@ -45,56 +45,22 @@ fn obey(line: &[u8], pen: Pen, map: &mut [u32]) -> Pen {
 
 // Asks of a pen, or of a map.
 fn ask(line: &[u8], pen: Pen, map: &mut [u32]) {
-    if script::is_command(line, b"new") {
-        return pens::new(line);
+    match script::command(
+        line,
+        b"new set_pc calls emit range_data runs map entry fill add at move",
+    ) {
+        0 => pens::new(line),
+        1 => pens::set_pc(line, pen),
+        2 => pens::calls(line, pen),
+        3 => pens::emit(line, pen),
+        4 => pens::range_data(line, pen),
+        5 => pens::runs(line),
+        6 => maps::memory(line),
+        7 => maps::entry(line),
+        8 => maps::fill(line, map),
+        9 => maps::add(line, map),
+        10 => maps::at(line, map),
+        11 => maps::shift(line, map),
+        _ => show::tell(line),
     }
-    if script::is_command(line, b"set_pc") {
-        return pens::set_pc(line, pen);
-    }
-    if script::is_command(line, b"calls") {
-        return pens::calls(line, pen);
-    }
-    ask_image(line, pen, map)
-}
-
-// Asks of an image, or of a map.
-fn ask_image(line: &[u8], pen: Pen, map: &mut [u32]) {
-    if script::is_command(line, b"emit") {
-        return pens::emit(line, pen);
-    }
-    if script::is_command(line, b"range_data") {
-        return pens::range_data(line, pen);
-    }
-    if script::is_command(line, b"runs") {
-        return pens::runs(line);
-    }
-    ask_memory(line, map)
-}
-
-// Asks of memory, or of the map.
-fn ask_memory(line: &[u8], map: &mut [u32]) {
-    if script::is_command(line, b"map") {
-        return maps::memory(line);
-    }
-    if script::is_command(line, b"entry") {
-        return maps::entry(line);
-    }
-    if script::is_command(line, b"fill") {
-        return maps::fill(line, map);
-    }
-    ask_map(line, map)
-}
-
-// Asks of the map.
-fn ask_map(line: &[u8], map: &mut [u32]) {
-    if script::is_command(line, b"add") {
-        return maps::add(line, map);
-    }
-    if script::is_command(line, b"at") {
-        return maps::at(line, map);
-    }
-    if script::is_command(line, b"move") {
-        return maps::shift(line, map);
-    }
-    show::tell(line);
 }

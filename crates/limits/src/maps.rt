@@ -4,6 +4,7 @@ use crate::answers::of_entry;
 use crate::answers::of_found;
 use crate::answers::of_outcome;
 use crate::show::print;
+use crate::show::print_all;
 use crate::show::print_name;
 use crate::show::tell;
 use source_map::Entry;
@@ -57,15 +58,18 @@ fn small(scope: u32) -> Entry {
 // Prints what every call answers on one map; the last that is done clears it.
 fn print_map(name: &[u8], map: &mut [u32]) {
     print_name(name);
-    print(b"  len", of_count(source_map::len(map)));
-    print(b"  entry 0", entry_at(map, 0));
-    print(
-        b"  address",
+    let answers = [
+        of_count(source_map::len(map)),
+        entry_at(map, 0),
         of_found(source_map::address_to_offset(map, 0)),
+        added(map, small(0)),
+        moved(map, 0, 1, 2),
+        of_outcome(source_map::clear(map)),
+    ];
+    print_all(
+        b"  len\n  entry 0\n  address\n  add\n  move\n  clear",
+        &answers,
     );
-    print(b"  add", added(map, small(0)));
-    print(b"  move", moved(map, 0, 1, 2));
-    print(b"  clear", of_outcome(source_map::clear(map)));
 }
 
 // Adds entries until the map is full: NAME.

@@ -6,6 +6,7 @@ use crate::answers::of_outcome;
 use crate::answers::of_place;
 use crate::answers::of_range;
 use crate::show::print;
+use crate::show::print_all;
 use crate::show::print_name;
 use pen::Pen;
 
@@ -56,14 +57,20 @@ pub fn set_pc(line: &[u8], pen: Pen) {
 // What every call answers on one pen; the emit, of one byte, is the last: NAME.
 pub fn calls(line: &[u8], pen: Pen) {
     print_name(script::words_from(line, 1));
-    print(b"  reset", of_drawn(segment::reset(pen)));
-    print(b"  pc", of_place(pen.pc()));
-    print(b"  set_pc", of_drawn(segment::set_pc(pen, 0)));
-    print(b"  target_pc", of_number(pen.target_pc()));
-    print(b"  range", of_range(pen.range()));
-    print(b"  target_offset", of_number(pen.target_offset()));
-    print(b"  range_data", handed(pen, SIZE));
-    print(b"  emit", emitted(pen, SIZE));
+    let answers = [
+        of_drawn(segment::reset(pen)),
+        of_place(pen.pc()),
+        of_drawn(segment::set_pc(pen, 0)),
+        of_number(pen.target_pc()),
+        of_range(pen.range()),
+        of_number(pen.target_offset()),
+        handed(pen, SIZE),
+        emitted(pen, SIZE),
+    ];
+    print_all(
+        b"  reset\n  pc\n  set_pc\n  target_pc\n  range\n  target_offset\n  range_data\n  emit",
+        &answers,
+    );
 }
 
 // An emit of one byte: SIZE NAME.

@@ -9,6 +9,15 @@ pub fn print(question: &[u8], number: u8) {
     io::write_all(STDOUT_FILENO, b"\n");
 }
 
+// Prints questions, one in each line, and the numbers of their answers.
+pub fn print_all(questions: &[u8], numbers: &[u8]) {
+    let mut i = 0;
+    while i < numbers.len() {
+        print(script::line(questions, i), numbers[i]);
+        i += 1;
+    }
+}
+
 // Prints a name.
 pub fn print_name(name: &[u8]) {
     io::write_all(STDOUT_FILENO, name);

@@ -10,6 +10,7 @@ use Rattle.script.proofs.word.Reads as word
 use Rattle.script.proofs.words_from.Reads as words-from
 use Rattle.script.proofs.number.Reads as number
 use Rattle.script.proofs.is_command.Reads as is-command
+use Rattle.script.proofs.command.Reads as command
 use Rattle.script.proofs.is_silent.Reads as is-silent
 use Rattle.script.proofs.put_bytes.Reads as put-bytes
 use Rattle.script.proofs.is_tape.Reads as is-tape
@@ -28,6 +29,9 @@ number-one k a x y e f p q = same p q
 
 pub is-command-one : OneResult is-command.Post
 is-command-one k a x y e f p q = same p q
+
+pub command-one : OneResult command.Post
+command-one k a x y e f p q = same p q
 
 pub is-silent-one : OneResult is-silent.Post
 is-silent-one k a x y e f p q = same p q

@@ -10,7 +10,7 @@ ghost use Rattle.page.specs.Page.{laid, repeated, bytesIn};
 ghost use Rattle.script.specs.Parts.{until, from, starts};
 ghost use Rattle.script.specs.Words.{linesIn, lineOf, wordsIn, wordOf, wordsFrom};
 ghost use Rattle.script.specs.Numbers.{withDigit, withLetter, numberIn, numberOf};
-ghost use Rattle.script.specs.Commands.{isCommand, isSilent, isTape};
+ghost use Rattle.script.specs.Commands.{isCommand, commandOf, isSilent, isTape};
 ghost use Rattle.script.specs.Tapes.{bytesOf, labelOf, labelsBehind, tapeAfter};
 ghost use Rattle.script.specs.Steps.{Next};
 
@@ -174,6 +174,21 @@ pub fn is_command(line: &[u8], command: &[u8]) -> bool
     ensures { λ r. ⌜ r ≡ isCommand (now (line .entry)) (now (command .entry)) ⌝ }
 {
     page::is_same(word(line, 0), command)
+}
+
+// The number of a line's command among the words of `names`, from 0 on; how many they are where it is none.
+pub fn command(line: &[u8], names: &[u8]) -> usize
+    ensures { λ r. ⌜ r ≡ commandOf (now (line .entry)) (now (names .entry)) ⌝ }
+{
+    let count = words(names);
+    let mut i = 0;
+    while i < count {
+        if is_command(line, word(names, i)) {
+            return i;
+        }
+        i += 1;
+    }
+    i
 }
 
 // Whether a line asks for nothing: it is empty or a comment.

@@ -5,12 +5,14 @@ use crate::show::done;
 use crate::show::found;
 use crate::show::got;
 use crate::show::made;
-use crate::show::print;
-use crate::show::print_number;
+use crate::show::print_place;
 use crate::show::print_word;
 use crate::tables::first;
 use symbols::Data;
 use symbols::SymbolTable;
+
+// How many places a list has here at most.
+const LONGEST: usize = 1025;
 
 // What every call answers at a node and by a name: NODE ID NAME.
 pub fn calls(line: &[u8], table: SymbolTable) {
@@ -65,22 +67,21 @@ fn exports(table: SymbolTable, node: u16, path: &[u16]) {
 // How many nodes query_all lists from node 1, and what stands then at the places 0, 1, 2 and 1,023: PLACES NAME.
 pub fn list_of(line: &[u8], table: SymbolTable, path: &[u16]) {
     let places = script::number(line, 1);
-    let mut list = [7u16; 1025];
-    if 1025 < places {
+    let mut list = [7u16; LONGEST];
+    if LONGEST < places {
         return print_word(b"too long");
     }
     let answer = table.query_all(1, path, &mut list[0..places]);
     counted(script::words_from(line, 2), answer);
-    place(b"  place 0", list[0]);
-    place(b"  place 1", list[1]);
-    place(b"  place 2", list[2]);
-    place(b"  place 1023", list[1023]);
+    print_places(&list);
 }
 
-// Prints what stands at a place of a list.
-fn place(question: &[u8], number: u16) {
-    print(question);
-    print_number(number as u64);
+// Prints what stands at the first places of a list, and at the last but one.
+fn print_places(list: &[u16; LONGEST]) {
+    print_place(0, list[0]);
+    print_place(1, list[1]);
+    print_place(2, list[2]);
+    print_place(1023, list[1023]);
 }
 
 // Prints an insert; hands back the table.

@@ -43,80 +43,39 @@ fn obey(line: &[u8], state: State) -> State {
     state.with_table(change(line, table, tables::first(&ids, state.count)))
 }
 
-// The table that a line makes.
+// The table that a line makes, or leaves as it is.
 fn change(line: &[u8], table: SymbolTable, path: &[u16]) -> SymbolTable {
-    if script::is_command(line, b"table") {
-        return tables::sized(SymbolTable::new(), line);
+    match script::command(line, b"table counts edge chain crowd export insert") {
+        0 => tables::sized(SymbolTable::new(), line),
+        1 => tables::sized(table, line),
+        2 => tables::linked(table, line),
+        3 => tables::chained(table, id(line, 1), id(line, 2)),
+        4 => tables::crowded(table, script::number(line, 1)),
+        5 => asks::exported(line, table, path),
+        6 => asks::inserted(line, table),
+        _ => {
+            ask(line, table, path);
+            table
+        }
     }
-    if script::is_command(line, b"counts") {
-        return tables::sized(table, line);
-    }
-    if script::is_command(line, b"edge") {
-        return tables::linked(table, line);
-    }
-    grow(line, table, path)
 }
 
-// The same by calls.
-fn grow(line: &[u8], table: SymbolTable, path: &[u16]) -> SymbolTable {
-    if script::is_command(line, b"chain") {
-        return tables::chained(table, id(line, 1), id(line, 2));
-    }
-    if script::is_command(line, b"crowd") {
-        return tables::crowded(table, script::number(line, 1));
-    }
-    if script::is_command(line, b"export") {
-        return asks::exported(line, table, path);
-    }
-    if script::is_command(line, b"insert") {
-        return asks::inserted(line, table);
-    }
-    ask(line, table, path);
-    table
-}
-
-// Asks the table.
+// Asks the table, or prints a text.
 fn ask(line: &[u8], table: SymbolTable, path: &[u16]) {
-    if script::is_command(line, b"calls") {
-        return asks::calls(line, table);
+    match script::command(line, b"calls paths list room child try reads lent say") {
+        0 => asks::calls(line, table),
+        1 => asks::path_calls(line, table, path),
+        2 => asks::list_of(line, table, path),
+        3 => asks::room(line, table),
+        4 => asks::child(line, table),
+        5 => {
+            asks::tried(line, table, path);
+        }
+        6 => asks::reads(table, id(line, 1), path),
+        7 => asks::lent(line, table, path),
+        8 => show::print_word(script::words_from(line, 1)),
+        _ => show::tell(line),
     }
-    if script::is_command(line, b"paths") {
-        return asks::path_calls(line, table, path);
-    }
-    if script::is_command(line, b"list") {
-        return asks::list_of(line, table, path);
-    }
-    if script::is_command(line, b"room") {
-        return asks::room(line, table);
-    }
-    ask_once(line, table, path)
-}
-
-// Asks for one thing.
-fn ask_once(line: &[u8], table: SymbolTable, path: &[u16]) {
-    if script::is_command(line, b"child") {
-        return asks::child(line, table);
-    }
-    if script::is_command(line, b"try") {
-        asks::tried(line, table, path);
-        return;
-    }
-    if script::is_command(line, b"reads") {
-        return asks::reads(table, id(line, 1), path);
-    }
-    if script::is_command(line, b"lent") {
-        return asks::lent(line, table, path);
-    }
-    say(line)
-}
-
-// Prints a text, or a line that is not known.
-fn say(line: &[u8]) {
-    if script::is_command(line, b"say") {
-        return show::print_word(script::words_from(line, 1));
-    }
-    show::print(b"not known");
-    show::print_word(line);
 }
 
 // A node or a name.

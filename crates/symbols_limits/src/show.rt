@@ -27,6 +27,20 @@ pub fn print_number(number: u64) {
     io::write_all(STDOUT_FILENO, b"\n");
 }
 
+// Prints a line that is not known.
+pub fn tell(line: &[u8]) {
+    print(b"not known");
+    print_word(line);
+}
+
+// Prints what stands at a place of a list.
+pub fn print_place(index: u64, number: u16) {
+    io::write_all(STDOUT_FILENO, b"  place ");
+    io::print_decimal(STDOUT_FILENO, index);
+    io::write_all(STDOUT_FILENO, b": ");
+    print_number(number as u64);
+}
+
 // Prints a refusal.
 fn print_refused(number: u8) {
     io::write_all(STDOUT_FILENO, b"refused ");
