@@ -51,15 +51,10 @@ fn ask(line: &[u8], tape: &[u8]) {
 
 // The same, without the end of the line that is printed.
 fn build(line: &[u8], tape: &[u8]) {
-    if script::is_command(line, b"build") {
-        return memory::build(line, tape);
+    match script::command(line, b"build left sized") {
+        0 => memory::build(line, tape),
+        1 => memory::left(line, tape),
+        2 => memory::sized(line, tape),
+        _ => show::tell(line),
     }
-    if script::is_command(line, b"left") {
-        return memory::left(line, tape);
-    }
-    if script::is_command(line, b"sized") {
-        return memory::sized(line, tape);
-    }
-    show::print(b"not known: ");
-    show::print(line);
 }

@@ -142,6 +142,12 @@ pub fn print_built(built: Built, image: &[u8], list: &[i64]) {
     }
 }
 
+// Says that a line has no command.
+pub fn tell(line: &[u8]) {
+    print(b"not known: ");
+    print(line);
+}
+
 // Prints the name of a case, which its line has from that word on.
 pub fn print_name(line: &[u8], from: usize) {
     print(script::words_from(line, from));

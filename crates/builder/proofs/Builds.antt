@@ -1,59 +1,36 @@
--- A build by what is noted is the build by what query finds, and numbers that stand in arrays give the same build and the same list.
--- Assumes nothing.
+-- Numbers that stand in arrays give the same build and the same list; and what each call answers, put together. Assumes nothing.
 use mathlib.Core.List.{List, _∷_, map}
 use mathlib.Core.Option.{Option}
 use mathlib.Core.Path.{_≡_, refl, sym, ap, _∙_, subst}
-use Prim.Native.Nat.{ℕ, _-_, _≤_, _<_}
+use Prim.Native.Nat.{ℕ, _-_, _<_}
 use native.Mathlib.Omega.{arith}
 use lib.IntN.{ℤ, pos}
 use lib.ListN.{length, replicate}
-use borrow.Author.Tests.{lt-ltb}
 use Rattle.refusals.specs.AnswerAt.{AnswerAt, Fine, Fault, mapped, andThen}
 use Rattle.refusals.proofs.Never.{never}
 use Rattle.refusals.proofs.Answers.{fine-value, fault-is}
-use Rattle.pen.specs.Pens.{size}
 use Rattle.symbols.specs.Symbols.{numberOr0}
-use Rattle.form.specs.Form.{maxTape}
-use Rattle.form.specs.Statements.{Statement, statements}
+use Rattle.form.specs.Statements.{Statement}
 use Rattle.evaluator.specs.Expression.{Value}
 use Rattle.walk.specs.declared.Numbers.{Numbers}
-use Rattle.walk.specs.Walk.{Origin, origin}
+use Rattle.walk.specs.Walk.{Origin}
 use Rattle.walk.specs.Values.{Values, numbered, declarations}
-use Rattle.walk.specs.Numbers.{filled, numbersBy, readsNoted}
-use Rattle.walk.proofs.Agrees.{Alike}
+use Rattle.walk.specs.Numbers.{filled, numbersBy}
 use Rattle.walk.proofs.Columns.{by-node}
-use Rattle.passes.specs.declared.Passes as P
-use Rattle.passes.specs.declared.Passes.the-variants as after
 use Rattle.passes.specs.Passes.{settled}
-use Rattle.passes.specs.Settle as S
-use Rattle.passes.specs.Settle.{settleOf, saysPasses}
-use Rattle.passes.proofs.Agrees.{settled-alike}
-use Rattle.passes.proofs.Counting.{allowed-by}
 use Rattle.passes.proofs.Settles.{least, passes-length}
 use Rattle.tries.specs.declared.Written as W
 use Rattle.tries.specs.declared.Written.the-variants as written
 use Rattle.tries.specs.Tries.{Trying, start, tries}
 use Rattle.tries.specs.Write.{rangeOf, saysWritten, imageOr}
-use Rattle.tries.proofs.Agrees.{tries-alike}
 use Rattle.number_list.proofs.Kept.{list-zeros}
 use Rattle.compares.specs.Compared.{builder}
-use Rattle.builder.specs.Build.{Build, finished, triedWith, builtBy}
+use Rattle.builds.specs.Build.{Build, triedWith, builtBy}
 use Rattle.builder.specs.Call.{Report, report, Memory, memory, left}
 use Rattle.builder.specs.Steps.{imageFrom, listFrom, finishedIn, triedIn}
 
--- ---- two readings that agree at every statement
-
 abbrev Reads : Type 0
 Reads = (ℕ → Option ℤ) → ℤ → ℕ → Value
-
-pub built-alike : (r s : Reads) (xs : List Statement) (o : Origin) → Alike r s xs → builtBy r xs o ≡ builtBy s xs o
-unfolding builtBy
-built-alike r s xs o h =
-    ap (λ (a : AnswerAt (ℕ × Values)). andThen a (triedWith r xs o)) (settled-alike r s xs o h) ∙ go (settled s xs o)
-  where
-    go : (a : AnswerAt (ℕ × Values)) → andThen a (triedWith r xs o) ≡ andThen a (triedWith s xs o)
-    go (Fine (n, L)) = ap (mapped (finished s xs o n L)) (tries-alike r s builder (numbered L) (start o) xs h)
-    go (Fault n at) = refl
 
 -- ---- numbers that stand in arrays
 
@@ -73,6 +50,15 @@ module _ (r : Reads) (xs : List Statement) (o : Origin) (few : declarations xs <
         numbers = l;
         passes = n;
       }
+
+-- the build is then the tries with these numbers
+pub built-after : (r : Reads) (xs : List Statement) (o : Origin) → declarations xs < 1024 → {n : ℕ} {numbers : Numbers}
+    → (L : Values) × (settled r xs o ≡ Fine (n, L)) × (numbers ≡ numbersBy L) → triedIn r xs o n numbers ≡ builtBy r xs o
+unfolding builtBy
+built-after r xs o few {n} (L, e, is) =
+    ap (triedIn r xs o n) is
+    ∙ tried-arrays r xs o few n L e
+    ∙ sym (ap (λ (a : AnswerAt (ℕ × Values)). andThen a (triedWith r xs o)) e)
 
 -- ---- what the tries answer
 
@@ -101,39 +87,6 @@ module _ (F : Trying → Build) (image : List ℕ) (list : List ℤ) {w : W.Writ
         f .5,
       )
   tried-done is (Fault n j) e i told = never (cc)
-
--- ---- what settling answers
-
-module _ {p : P.Passes} {numbers : Numbers} where
-  pub settled-refused : {m at : ℕ} → p ≡ after.Refused m at → (a : AnswerAt (ℕ × Values)) → (saysPasses p, numbers) ≡ S.left a → a ≡ Fault m at
-  settled-refused is (Fine (n, L)) e = never (let f = sym (ap saysPasses is) ∙ ap (λ x. x .0) e in cc)
-  settled-refused is (Fault n i) e = sym (fault-is (sym (ap saysPasses is) ∙ ap (λ x. x .0) e))
-
-  pub settled-after : {n : ℕ} → p ≡ after.After n → (a : AnswerAt (ℕ × Values)) → (saysPasses p, numbers) ≡ S.left a
-      → (L : Values) × (a ≡ Fine (n, L)) × (numbers ≡ numbersBy L)
-  settled-after is (Fine (n, L)) e =
-      let same = fine-value (sym (ap saysPasses is) ∙ ap (λ x. x .0) e) in
-      (L, (λ j. Fine (sym same j, L)), ap (λ x. x .1) e)
-  settled-after is (Fault n i) e = never (let f = sym (ap saysPasses is) ∙ ap (λ x. x .0) e in cc)
-
-pub settle-allowed : (tape nodes : List ℕ) (initial : ℕ) → length tape ≤ maxTape → initial ≤ size → declarations (statements tape) < 1024
-    → settleOf tape nodes initial ≡ settled (readsNoted tape nodes) (statements tape) (origin initial)
-unfolding settleOf
-settle-allowed tape nodes initial a b few =
-    rw (sym (allowed-by tape initial a b refl) ∙ lt-ltb (declarations (statements tape)) 1024 few)
-
--- the build is then the tries with these numbers
-pub built-after : (r : Reads) (xs : List Statement) (o : Origin) → declarations xs < 1024 → {n : ℕ} {numbers : Numbers}
-    → (L : Values) × (settled r xs o ≡ Fine (n, L)) × (numbers ≡ numbersBy L) → triedIn r xs o n numbers ≡ builtBy r xs o
-unfolding builtBy
-built-after r xs o few {n} (L, e, is) =
-    ap (triedIn r xs o n) is
-    ∙ tried-arrays r xs o few n L e
-    ∙ sym (ap (λ (a : AnswerAt (ℕ × Values)). andThen a (triedWith r xs o)) e)
-
-pub built-refused : (r : Reads) (xs : List Statement) (o : Origin) {m at : ℕ} → settled r xs o ≡ Fault m at → builtBy r xs o ≡ Fault m at
-unfolding builtBy
-built-refused r xs o e = ap (λ (a : AnswerAt (ℕ × Values)). andThen a (triedWith r xs o)) e
 
 -- ---- what a build leaves
 

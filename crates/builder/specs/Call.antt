@@ -15,7 +15,7 @@ use Rattle.walk.specs.Walk.{origin}
 use Rattle.walk.specs.Numbers.{filled}
 use Rattle.builder.specs.declared.Built as B
 use Rattle.builder.specs.declared.Built.the-variants as cases
-use Rattle.builder.specs.Build.{Build, built}
+use Rattle.builds.specs.Build.{Build, built}
 
 -- ---- arguments
 

@@ -1,5 +1,3 @@
 -- The definitions that the contracts of this crate cite.
-pub mod Build
-pub mod Refusals
 pub mod Call
 pub mod Steps

@@ -14,7 +14,7 @@ use Rattle.walk.specs.Numbers.{filled, numbersIn}
 use Rattle.tries.specs.Tries.{Trying, start, tries}
 use Rattle.number_list.specs.Lists.{numberList}
 use Rattle.compares.specs.Compared.{builder}
-use Rattle.builder.specs.Build.{Build}
+use Rattle.builds.specs.Build.{Build}
 
 -- an image behind a build
 abbrev pub imageFrom : List ℕ → AnswerAt Build → List ℕ

@@ -19,7 +19,7 @@ ghost use Rattle.form.specs.Statements.{statements};
 ghost use Rattle.walk.specs.Walk.{origin};
 ghost use Rattle.walk.specs.Values.{declarations};
 ghost use Rattle.walk.specs.Numbers.{readsNoted};
-ghost use Rattle.builder.specs.Build.{builtBy, built};
+ghost use Rattle.builds.specs.Build.{builtBy, built};
 ghost use Rattle.builder.specs.Call.{workPlaces, isAllowed, memory, buildOf, report, saysBuilt};
 ghost use Rattle.builder.specs.Steps.{imageFrom, listFrom, triedIn};
 

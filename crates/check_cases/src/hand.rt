@@ -36,38 +36,14 @@ impl Hand {
     }
 }
 
-// Whether a line changes the bytes.
-pub fn is_bytes(line: &[u8]) -> bool {
-    script::is_command(line, b"bytes") || script::is_command(line, b"byte")
-}
-
-// Other bytes, or one of them changed: AT BYTE. Gives how many there are.
-pub fn put_bytes(bytes: &mut [u8], count: usize, line: &[u8]) -> usize {
-    if script::is_command(line, b"bytes") {
-        return script::put_bytes(bytes, 0, line);
-    }
+// Another byte: AT BYTE.
+pub fn put_byte(bytes: &mut [u8], line: &[u8]) {
     page::put_hex(bytes, script::number(line, 1), script::words_from(line, 2));
-    count
 }
 
-// Whether a line changes the numbers.
-pub fn is_numbers(line: &[u8]) -> bool {
-    if script::is_command(line, b"numbers") {
-        return true;
-    }
-    script::is_command(line, b"filled") || script::is_command(line, b"number")
-}
-
-// Other numbers, so many that are one: N Z, or one of them changed: AT Z. Gives how many there are.
-pub fn put_numbers(numbers: &mut [i64], count: usize, line: &[u8]) -> usize {
-    if script::is_command(line, b"numbers") {
-        return put_each(numbers, line);
-    }
-    if script::is_command(line, b"filled") {
-        return put_often(numbers, script::number(line, 1), signed(line, 2));
-    }
+// Another number: AT Z.
+pub fn put_number(numbers: &mut [i64], line: &[u8]) {
     put(numbers, script::number(line, 1), signed(line, 2));
-    count
 }
 
 // A number at an index, if there is room.
@@ -77,8 +53,8 @@ fn put(numbers: &mut [i64], at: usize, number: i64) {
     }
 }
 
-// The numbers of a line.
-fn put_each(numbers: &mut [i64], line: &[u8]) -> usize {
+// The numbers of a line. Gives how many there are.
+pub fn put_each(numbers: &mut [i64], line: &[u8]) -> usize {
     let count = script::words(script::words_from(line, 1));
     let mut i = 0;
     while i < count {
@@ -88,8 +64,10 @@ fn put_each(numbers: &mut [i64], line: &[u8]) -> usize {
     count
 }
 
-// The same number so often.
-fn put_often(numbers: &mut [i64], count: usize, number: i64) -> usize {
+// The same number so often: N Z. Gives how many there are.
+pub fn put_often(numbers: &mut [i64], line: &[u8]) -> usize {
+    let count = script::number(line, 1);
+    let number = signed(line, 2);
     let mut i = 0;
     while i < count {
         put(numbers, i, number);

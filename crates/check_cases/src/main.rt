@@ -1,5 +1,6 @@
 // What `checker::check` answers to the cases on standard input, whose head says how they are written: a line for each case, with a few
 // words for it, then `accepted`, or the refusal and its offset. Document 01's answers stand in stdout.
+mod each;
 mod hand;
 mod show;
 
@@ -39,33 +40,34 @@ fn obey(line: &[u8], hand: Hand, tape: &mut [u8], numbers: &mut [i64], bytes: &m
     if script::is_tape(line) {
         return hand.with_tape(script::put_tape(tape, hand.tape, line));
     }
-    if hand::is_bytes(line) {
-        return hand.with_bytes(hand::put_bytes(bytes, hand.bytes, line));
+    match script::command(line, b"bytes byte numbers filled number") {
+        0 => hand.with_bytes(script::put_bytes(bytes, 0, line)),
+        1 => {
+            hand::put_byte(bytes, line);
+            hand
+        }
+        2 => hand.with_numbers(hand::put_each(numbers, line)),
+        3 => hand.with_numbers(hand::put_often(numbers, line)),
+        4 => {
+            hand::put_number(numbers, line);
+            hand
+        }
+        _ => {
+            ask(line, hand, tape, numbers, bytes);
+            hand
+        }
     }
-    if hand::is_numbers(line) {
-        return hand.with_numbers(hand::put_numbers(numbers, hand.numbers, line));
-    }
-    ask(
-        line,
-        page::cut(tape, hand.tape),
-        hand::first(numbers, hand.numbers),
-        page::cut(bytes, hand.bytes),
-    );
-    hand
 }
 
 // Checks as a line says.
-fn ask<'a>(line: &[u8], tape: &'a [u8], numbers: &'a [i64], bytes: &'a [u8]) {
+fn ask<'a>(line: &[u8], hand: Hand, tape: &'a [u8], numbers: &'a [i64], bytes: &mut [u8]) {
     if script::is_silent(line) {
         return;
     }
-    if script::is_command(line, b"check") {
-        return show::check(line, tape, numbers, bytes);
+    match script::command(line, b"check each built") {
+        0 => show::check(line, hand, tape, numbers, bytes),
+        1 => each::check(line, hand, tape, numbers, bytes),
+        2 => show::built(line, page::cut(tape, hand.tape)),
+        _ => show::tell(line),
     }
-    if script::is_command(line, b"built") {
-        return show::built(line, tape);
-    }
-    show::print(b"not known: ");
-    show::print(line);
-    show::print(b"\n");
 }

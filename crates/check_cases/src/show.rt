@@ -1,5 +1,6 @@
 // How cases are checked, and answers printed.
 use crate::hand;
+use crate::hand::Hand;
 use builder::Built;
 use checker::Checked;
 use libc::STDOUT_FILENO;
@@ -11,7 +12,7 @@ pub fn print(words: &[u8]) {
 }
 
 // Prints a number in decimal.
-fn print_decimal(n: usize) {
+pub fn print_decimal(n: usize) {
     io::print_decimal(STDOUT_FILENO, n as u64);
 }
 
@@ -39,6 +40,13 @@ fn print_line(line: &[u8], from: usize, answer: Checked) {
     print(b"\n");
 }
 
+// Says that a line has no command.
+pub fn tell(line: &[u8]) {
+    print(b"not known: ");
+    print(line);
+    print(b"\n");
+}
+
 // What the checker answers.
 fn checked<'a>(
     tape: &'a [u8],
@@ -50,15 +58,26 @@ fn checked<'a>(
     checker::check(tape, initial, numbers, start, bytes)
 }
 
+// What it answers to what is handed in with a tape: INITIAL START.
+pub fn answer<'a>(
+    line: &[u8],
+    hand: Hand,
+    tape: &'a [u8],
+    numbers: &'a [i64],
+    bytes: &'a [u8],
+) -> Checked {
+    checked(
+        page::cut(tape, hand.tape),
+        script::number(line, 1),
+        hand::first(numbers, hand.numbers),
+        script::number(line, 2),
+        page::cut(bytes, hand.bytes),
+    )
+}
+
 // Checks what is handed in with a tape: INITIAL START NAME.
-pub fn check<'a>(line: &[u8], tape: &'a [u8], numbers: &'a [i64], bytes: &'a [u8]) {
-    let initial = script::number(line, 1);
-    let start = script::number(line, 2);
-    print_line(
-        line,
-        3,
-        checker::check(tape, initial, numbers, start, bytes),
-    );
+pub fn check<'a>(line: &[u8], hand: Hand, tape: &'a [u8], numbers: &'a [i64], bytes: &'a [u8]) {
+    print_line(line, 3, answer(line, hand, tape, numbers, bytes));
 }
 
 // Builds a tape, and checks what the build gives: INITIAL NAME.

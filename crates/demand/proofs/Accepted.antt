@@ -33,12 +33,12 @@ use Rattle.tries.proofs.Sound.{tries-sound}
 use Rattle.reads.specs.Reads.{readsOn}
 use Rattle.number_list.specs.Lists.{numberList}
 use Rattle.compares.specs.Compared.{builder, checker}
-use Rattle.builder.specs.Build.{Build, built}
+use Rattle.builds.specs.Build.{Build, built}
 use Rattle.builder.specs.Call as call
 use Rattle.builder.specs.Call.{Memory, report, left, buildOf}
-use Rattle.builder.proofs.Names.{allowed}
-use Rattle.builder.proofs.Kept.{finished-build}
-use Rattle.builder.proofs.Agrees.{tries-either}
+use Rattle.builder.proofs.Arguments.{allowed}
+use Rattle.builds.proofs.Kept.{finished-build}
+use Rattle.builds.proofs.Agrees.{tries-either}
 use Rattle.checker.specs.Check.{covered, checkedBy, checked}
 use Rattle.checker.specs.Call.{checkOf}
 use Rattle.checker.proofs.Checks.{Allowed}

@@ -44,15 +44,16 @@ fn ask(line: &[u8], tape: &[u8]) {
     if script::is_silent(line) {
         return;
     }
-    if script::is_command(line, b"form") {
-        return form(line, tape);
+    match script::command(line, b"form expression value") {
+        0 => form(line, tape),
+        1 => expression(line, tape),
+        2 => value(line, tape),
+        _ => tell(line),
     }
-    if script::is_command(line, b"expression") {
-        return expression(line, tape);
-    }
-    if script::is_command(line, b"value") {
-        return value(line, tape);
-    }
+}
+
+// Says that a line has no command.
+fn tell(line: &[u8]) {
     print(b"not known: ");
     print(line);
     print(b"\n");

@@ -13,7 +13,7 @@ use Rattle.walk.specs.Walk.{Origin, begin}
 use Rattle.walk.specs.Values.{Values, numbered}
 use Rattle.passes.specs.Passes.{settled}
 use Rattle.reads.specs.Reads.{readsOn}
-use Rattle.builder.specs.Build.{Build, triedWith, builtBy, built}
+use Rattle.builds.specs.Build.{Build, triedWith, builtBy, built}
 use Rattle.lines.specs.Text.{lastLine}
 use Rattle.record_lines.specs.Records.{lines}
 use Rattle.listing.specs.Listing.{listedWith, listedBy, listed}

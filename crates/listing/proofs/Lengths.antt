@@ -25,7 +25,7 @@ use Rattle.walk.specs.Walk.{Origin, origin, begin}
 use Rattle.walk.specs.Values.{Values, numbered}
 use Rattle.passes.specs.Passes.{settled}
 use Rattle.reads.specs.Reads.{readsOn}
-use Rattle.builder.specs.Build.{Build, triedWith}
+use Rattle.builds.specs.Build.{Build, triedWith}
 use Rattle.record_lines.specs.Records.{lines, said}
 use Rattle.record_lines.proofs.Lengths.{lines-short}
 use Rattle.listing.specs.Listing.{listedWith, listedBy, listed}

@@ -34,7 +34,7 @@ use Rattle.tries.proofs.Agrees.{tries-alike, write-allowed}
 use Rattle.reads.specs.Reads.{readsOn}
 use Rattle.reads.proofs.Names.{declare-is}
 use Rattle.reads.proofs.Reading.{all-alike}
-use Rattle.builder.specs.Build.{finished}
+use Rattle.builds.specs.Build.{finished}
 use Rattle.record_lines.specs.Records.{lineOf, lines, recorded}
 use Rattle.listing.specs.Listing.{listedWith, listedBy, listed}
 

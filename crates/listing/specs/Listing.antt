@@ -12,7 +12,7 @@ use Rattle.walk.specs.Walk.{Origin, begin}
 use Rattle.walk.specs.Values.{Values, numbered}
 use Rattle.passes.specs.Passes.{settled}
 use Rattle.reads.specs.Reads.{readsOn}
-use Rattle.builder.specs.Build.{triedWith}
+use Rattle.builds.specs.Build.{triedWith}
 use Rattle.lines.specs.Text.{lastLine}
 use Rattle.record_lines.specs.Records.{lines}
 

@@ -4,7 +4,7 @@ use mathlib.Core.List.{List, _++_}
 use mathlib.Core.Path.{_≡_}
 use Rattle.refusals.specs.AnswerAt.{Fine, Fault}
 use Rattle.walk.specs.Walk.{Origin}
-use Rattle.builder.specs.Build.{Build, built}
+use Rattle.builds.specs.Build.{Build, built}
 use Rattle.lines.specs.Text.{lastLine}
 use Rattle.listing.specs.Listing.{listed}
 

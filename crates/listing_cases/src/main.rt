@@ -53,27 +53,12 @@ fn ask(line: &[u8], tape: &[u8], text: &mut [u8]) {
     if script::is_silent(line) {
         return;
     }
-    if script::is_command(line, b"line") {
-        return show::line(line, tape, text);
+    match script::command(line, b"line lines sized left ends") {
+        0 => show::line(line, tape, text),
+        1 => show::lines(line, tape, text),
+        2 => limits::sized(line, tape, text),
+        3 => limits::left(line, tape, text),
+        4 => limits::ends(line, tape, text),
+        _ => show::tell(line),
     }
-    if script::is_command(line, b"lines") {
-        return show::lines(line, tape, text);
-    }
-    ask_limits(line, tape, text)
-}
-
-// The same at the limits.
-fn ask_limits(line: &[u8], tape: &[u8], text: &mut [u8]) {
-    if script::is_command(line, b"sized") {
-        return limits::sized(line, tape, text);
-    }
-    if script::is_command(line, b"left") {
-        return limits::left(line, tape, text);
-    }
-    if script::is_command(line, b"ends") {
-        return limits::ends(line, tape, text);
-    }
-    show::print(b"not known: ");
-    show::print(line);
-    show::print(b"\n");
 }

@@ -31,6 +31,13 @@ fn print_each(bytes: &[u8]) {
     }
 }
 
+// Says that a line has no command.
+pub fn tell(line: &[u8]) {
+    print(b"not known: ");
+    print(line);
+    print(b"\n");
+}
+
 // Prints the bytes of a tape, or how many there are.
 fn print_tape(tape: &[u8]) {
     let count = tape.len();

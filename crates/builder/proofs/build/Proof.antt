@@ -5,9 +5,9 @@ use lib.IntN.{pos}
 use lib.ListN.{replicate}
 use Rattle.refusals.proofs.Pick.{granted, stopped, at-true}
 use Rattle.walk.specs.Walk.{origin}
-use Rattle.builder.specs.Build as Build
+use Rattle.builds.specs.Build as Build
 use Rattle.builder.specs.Call.{memory, left, buildOf}
-use Rattle.builder.proofs.Names.{allowed}
+use Rattle.builder.proofs.Arguments.{allowed}
 use Rattle.builder.proofs.Builds.{left-all}
 use borrow.Author.Needs.{needs}
 use Rattle.builder.proofs.build.Statement.{statement}

@@ -2,8 +2,8 @@
 use mathlib.Core.Path.{sym, _∙_}
 use Rattle.walk.specs.Walk.{origin}
 use Rattle.reads.proofs.Names.{names-refused, names-done, declare-is, few-names}
-use Rattle.builder.specs.Build.{built}
-use Rattle.builder.proofs.Names.{built-fault, built-noted}
+use Rattle.builds.specs.Build.{built}
+use Rattle.builds.proofs.Names.{built-fault, built-noted}
 use Rattle.builder.proofs.Builds.{left-refused, left-same}
 use borrow.Author.Needs.{needs}
 use Rattle.builder.proofs.build_names.Statement.{statement}

@@ -5,8 +5,10 @@ use Rattle.walk.specs.Walk.{origin}
 use Rattle.walk.specs.Numbers.{readsNoted}
 use Rattle.passes.specs.Passes as Passes
 use Rattle.passes.specs.Settle.{settleOf, left}
-use Rattle.builder.specs.Build.{builtBy}
-use Rattle.builder.proofs.Builds.{settle-allowed, settled-refused, settled-after, built-refused, built-after, left-refused, left-same}
+use Rattle.builds.specs.Build.{builtBy}
+use Rattle.builds.proofs.Settling.{settle-allowed, settled-refused, settled-after}
+use Rattle.builds.proofs.Builds.{built-refused}
+use Rattle.builder.proofs.Builds.{built-after, left-refused, left-same}
 use borrow.Author.Needs.{needs}
 use Rattle.builder.proofs.build_settled.Statement.{statement}
 use Rattle.builder.proofs.build_settled.Tie as tie

@@ -8,7 +8,7 @@ use Rattle.walk.specs.Walk.{origin}
 use Rattle.walk.specs.Numbers.{readsNoted}
 use Rattle.passes.specs.Passes as Passes
 use Rattle.passes.specs.Settle.{settleOf, left}
-use Rattle.builder.proofs.Builds.{settle-allowed, settled-refused, settled-after}
+use Rattle.builds.proofs.Settling.{settle-allowed, settled-refused, settled-after}
 use Rattle.record_lines.specs.Records.{said}
 use Rattle.listing.proofs.Listings.{listed-after, listed-refused}
 use Rattle.listing.proofs.fill_settled.Statement.{statement}

@@ -8,10 +8,16 @@ use Rattle.check_cases.proofs.hand.put_often.Statement.{statement}
 use Rattle.check_cases.proofs.hand.put_often.Tie as tie
 
 abbrev Inv-loop : tie.InvT-loop
-Inv-loop numbers₀ count number i₀ numbers i = length numbers ≡ length numbers₀
+Inv-loop numbers₀ line count number i₀ numbers i = length numbers ≡ length numbers₀
 
 abbrev μ-loop : tie.MeasureT-loop
-μ-loop numbers₀ count number i₀ numbers i = count - i
+μ-loop numbers₀ line count number i₀ numbers i = count - i
+
+number-requires : tie.Need-number-requires Inv-loop μ-loop
+number-requires c κs = tt
+
+signed-requires : tie.Need-signed-requires Inv-loop μ-loop
+signed-requires c κs = tt
 
 loop-holds : tie.Need-loop-holds Inv-loop μ-loop
 loop-holds c = search needs
@@ -40,6 +46,8 @@ put-often-spec =
     (tie.spec
     Inv-loop
     μ-loop
+    number-requires
+    signed-requires
     loop-holds
     put-requires
     add-i

@@ -1,13 +1,12 @@
 -- A build whose arguments are in their ranges is refused with one of the numbers listed for it; so a 1 is for arguments alone.
 -- Assumes nothing.
-use mathlib.Core.Bool.{Bool, true, false}
+use mathlib.Core.Bool.{true, false}
 use mathlib.Core.List.{List}
 use mathlib.Core.Option.{Option, none, some}
 use mathlib.Core.Path.{_≡_, refl, subst}
 use Prim.Native.Nat.{ℕ, _≤_}
 use lib.IntN.{ℤ}
 use lib.ListN.{length}
-use Rattle.refusals.specs.Answer.{pick}
 use Rattle.refusals.specs.AnswerAt.{AnswerAt, Fine, Fault, mapped}
 use Rattle.refusals.specs.Table.{argument}
 use Rattle.refusals.proofs.Never.{never}
@@ -29,11 +28,9 @@ use Rattle.compares.specs.Compared.{plain, builder}
 use Rattle.tries.proofs.Numbers.{tries-number}
 use Rattle.reads.specs.Reads.{readsOn}
 use Rattle.reads.proofs.Numbers.{computes}
-use Rattle.builder.specs.Build.{Build, finished, triedWith, builtBy, built}
-use Rattle.builder.specs.Refusals.{refusals}
-use Rattle.builder.specs.Call.{Memory, isAllowed, left, buildOf}
-use Rattle.builder.proofs.Agrees.{settled-either}
-use Rattle.builder.proofs.Names.{allowed}
+use Rattle.builds.specs.Build.{finished, triedWith, builtBy, built}
+use Rattle.builds.specs.Refusals.{refusals}
+use Rattle.builds.proofs.Agrees.{settled-either}
 
 -- a number that stands in the list
 abbrev Among : ℕ → Type 0
@@ -91,25 +88,3 @@ module _ (tape : List ℕ) (initial : ℕ) (few : length tape ≤ maxTape) (low 
   pub not-argument : built tape (origin initial) ≡ Fault n at → n ≡ argument → ⊥
   unfolding has
   not-argument e is = let no : false ≡ true = subst Among is (refused-with e) in never (cc)
-
--- ---- the call: it answers a 1 only where an argument is outside its range
-
-module _ (tape : List ℕ) (initial : ℕ) (m : Memory) where
-  abbrev ranges : Bool
-  ranges = isAllowed (length tape) initial (length (m .image)) (length (m .list)) (length (m .work))
-
-  pub argument-only : {at : ℕ} → buildOf tape initial m .0 ≡ Fault argument at → ranges ≡ false
-  unfolding buildOf
-  argument-only {at} e = go ranges refl e
-    where
-      not-left : length tape ≤ maxTape → initial ≤ size → (b : AnswerAt Build) → built tape (origin initial) ≡ b
-          → left m b .0 ≡ Fault argument at → ⊥
-      not-left few low (Fine b) is e = never (cc)
-      not-left few low (Fault n i) is e = not-argument tape initial few low is cc
-
-      go : (t : Bool) → ranges ≡ t → pick t (left m (built tape (origin initial))) (Fault argument 0, m) .0 ≡ Fault argument at
-          → ranges ≡ false
-      go true in-range e =
-          let a = allowed _ _ _ _ _ in-range in
-          absurd (not-left (a .tape) (a .initial) (built tape (origin initial)) refl e)
-      go false in-range e = in-range

@@ -22,8 +22,8 @@ use Rattle.tries.proofs.Zero.{clean-blank, clean-tries}
 use Rattle.reads.specs.Reads.{readsOn}
 use Rattle.number_list.specs.Lists.{numberList}
 use Rattle.compares.specs.Compared.{builder}
-use Rattle.builder.specs.Build.{Build, finished, triedWith, builtBy, built}
-use Rattle.builder.proofs.Builds.{built-refused}
+use Rattle.builds.specs.Build.{Build, finished, triedWith, builtBy, built}
+use Rattle.builds.proofs.Builds.{built-refused}
 
 pub record Built (tape : List ℕ) (o : Origin) (b : Build) : Type 0 where
   -- the table of the tape's names

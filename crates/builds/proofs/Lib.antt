@@ -1,0 +1,7 @@
+-- What settling answers; a build by its notes; what a finished build has, and with which numbers one is refused.
+pub mod Settling
+pub mod Builds
+pub mod Names
+pub mod Kept
+pub mod Agrees
+pub mod Refusals
