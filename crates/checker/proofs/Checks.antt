@@ -8,7 +8,7 @@ use Prim.Native.Nat.{ℕ, _≤_, _<_}
 use native.Mathlib.Omega.{arith}
 use lib.Dec.{eqb, leb}
 use lib.IntN.{ℤ}
-use lib.ListN.{length}
+use lib.ListN.{length, replicate, length-replicate}
 use borrow.Author.Tests.{eq-eqb, ne-eqb, leb-true}
 use Rattle.refusals.specs.Answer.{pick}
 use Rattle.refusals.specs.AnswerAt.{AnswerAt, Fine, Fault, mapped, andThen}
@@ -41,6 +41,15 @@ use Rattle.compares.specs.declared.Compares.{Compares}
 use Rattle.compares.specs.Compared.{checker}
 use Rattle.checker.specs.Check.{covered, isWritten, judged, checkedBy, checked}
 use Rattle.checker.specs.Call.{isAllowed}
+
+-- ---- memory of the call's own
+
+-- the notes before the names, and the image before the tries
+abbrev pub blank : List ℕ
+blank = replicate 65536 0
+
+pub blank-length : length blank ≡ 65536
+blank-length = length-replicate {A = ℕ} 65536 0
 
 -- ---- arguments
 

@@ -1,23 +1,13 @@
 -- The arguments, the names, and the numbers behind them. Assumes nothing.
-use mathlib.Core.List.{List}
-use mathlib.Core.Path.{_≡_, sym, _∙_}
-use Prim.Native.Nat.{ℕ}
-use lib.ListN.{length, replicate, length-replicate}
+use mathlib.Core.Path.{sym, _∙_}
 use Rattle.refusals.proofs.Pick.{granted, stopped, at-true}
 use Rattle.walk.specs.Walk.{origin}
 use Rattle.reads.proofs.Names.{names-refused, names-done, declare-is, few-names}
 use Rattle.checker.specs.Call.{checkOf}
-use Rattle.checker.proofs.Checks.{allowed, checked-fault, checked-noted}
+use Rattle.checker.proofs.Checks.{blank, blank-length, allowed, checked-fault, checked-noted}
 use borrow.Author.Needs.{needs}
 use Rattle.checker.proofs.check.Statement.{statement}
 use Rattle.checker.proofs.check.Tie as tie
-
--- the notes before the names
-abbrev none-noted : List ℕ
-none-noted = replicate 65536 0
-
-places : length none-noted ≡ 65536
-places = length-replicate {A = ℕ} 65536 0
 
 is-allowed-requires : tie.Need-is-allowed-requires
 is-allowed-requires c κs = tt
@@ -32,7 +22,7 @@ returns c =
     c .refused .ensures ∙ stopped _ _ (tested .before .is-allowed .ensures) (tested .if1 .taken)
 
 slice-aggregate-declare : tie.Need-slice-aggregate-declare
-slice-aggregate-declare c = sym places
+slice-aggregate-declare c = sym blank-length
 
 declare-requires : tie.Need-declare-requires
 declare-requires c κs = tt
@@ -47,7 +37,7 @@ enum-told : tie.Need-enum-told
 enum-told c = search needs
 
 slice-aggregate-check-numbers : tie.Need-slice-aggregate-check-numbers
-slice-aggregate-check-numbers c = search needs
+slice-aggregate-check-numbers c = sym (c .before .before .before .nodes2 .given)
 
 check-numbers-requires : tie.Need-check-numbers-requires
 check-numbers-requires c κs =
@@ -57,7 +47,7 @@ check-numbers-requires c κs =
     let args = tested .before .before .before .before .args in
     let fine = allowed _ _ _ _ (granted (tested .before .is-allowed .ensures) (tested .if1 .left)) in
     let found = names-done (told .enum-told .given .1) _ (declared .declare .ensures .0) in
-    (fine .tape, fine .initial, few-names (args .tape .now) (sym (declare-is (args .tape .now) places) ∙ found .1))
+    (fine .tape, fine .initial, few-names (args .tape .now) (sym (declare-is (args .tape .now) blank-length) ∙ found .1))
 
 returns-2 : tie.Need-returns-2
 unfolding checkOf
@@ -69,7 +59,7 @@ returns-2 c =
     let refuses = names-refused (told .answer .given .1) _ (declared .declare .ensures .0) in
     c .refused2 .ensures
     ∙ checked-fault (args .tape .now) (origin (args .initial)) (args .numbers .now) (args .start) (args .bytes .now)
-    (sym (declare-is (args .tape .now) places) ∙ refuses)
+    (sym (declare-is (args .tape .now) blank-length) ∙ refuses)
     ∙ at-true _ _ (granted (tested .before .is-allowed .ensures) (tested .if1 .left))
 
 returns-3 : tie.Need-returns-3
@@ -82,7 +72,7 @@ returns-3 c =
     let found = names-done (told .enum-told .given .1) _ (declared .declare .ensures .0) in
     c .check-numbers .ensures
     ∙ checked-noted (args .tape .now) (origin (args .initial)) (args .numbers .now) (args .start) (args .bytes .now)
-    (sym (declare-is (args .tape .now) places) ∙ found .1) none-noted places
+    (sym (declare-is (args .tape .now) blank-length) ∙ found .1) blank blank-length
     (declared .declare .ensures .1)
     ∙ at-true _ _ (granted (tested .before .is-allowed .ensures) (tested .if1 .left))
 

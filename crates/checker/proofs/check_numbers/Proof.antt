@@ -1,21 +1,11 @@
 -- The length of the list, every statement tried with its numbers, and what was written judged. Assumes nothing.
-use mathlib.Core.List.{List}
-use mathlib.Core.Path.{_≡_, sym, ap, _∙_}
-use Prim.Native.Nat.{ℕ}
-use lib.ListN.{length, replicate, length-replicate}
+use mathlib.Core.Path.{sym, ap, _∙_}
 use Rattle.tries.specs.Write.{saysWritten}
 use Rattle.number_list.proofs.Kept.{spread-told}
-use Rattle.checker.proofs.Checks.{numbers-differ, tries-refused, range-inside, range-judged}
+use Rattle.checker.proofs.Checks.{blank, blank-length, numbers-differ, tries-refused, range-inside, range-judged}
 use borrow.Author.Needs.{needs}
 use Rattle.checker.proofs.check_numbers.Statement.{statement}
 use Rattle.checker.proofs.check_numbers.Tie as tie
-
--- the image before the tries
-abbrev blank : List ℕ
-blank = replicate 65536 0
-
-whole : length blank ≡ 65536
-whole = length-replicate {A = ℕ} 65536 0
 
 spread-requires : tie.Need-spread-requires
 spread-requires c κs = tt
@@ -37,7 +27,7 @@ checker-requires : tie.Need-checker-requires
 checker-requires c κs = tt
 
 slice-aggregate-write : tie.Need-slice-aggregate-write
-slice-aggregate-write c = sym whole
+slice-aggregate-write c = sym blank-length
 
 write-requires : tie.Need-write-requires
 write-requires c κs = tt
@@ -64,7 +54,7 @@ judge-requires c κs =
     let args = given .args in
     let told = spread-told (args .tape .now) (args .numbers .now) (spread .spread .ensures) (given .pre .2) in
     range-inside (args .tape .now) (args .nodes .now) (args .initial) (args .numbers .now) (args .start) (args .bytes .now) (given .pre)
-    told blank whole (made .checker .ensures) (written .write .ensures) (ap saysWritten (range .first .given .1))
+    told blank blank-length (made .checker .ensures) (written .write .ensures) (ap saysWritten (range .first .given .1))
 
 returns-2 : tie.Need-returns-2
 returns-2 c =
@@ -78,7 +68,7 @@ returns-2 c =
     let told = spread-told (args .tape .now) (args .numbers .now) (spread .spread .ensures) (given .pre .2) in
     c .refused2 .ensures
     ∙ tries-refused (args .tape .now) (args .nodes .now) (args .initial) (args .numbers .now) (args .start) (args .bytes .now) (given .pre)
-    told blank whole (made .checker .ensures) (written .write .ensures) (fitting .if1 .left) (ap saysWritten (no .number .given .1))
+    told blank blank-length (made .checker .ensures) (written .write .ensures) (fitting .if1 .left) (ap saysWritten (no .number .given .1))
 
 returns-3 : tie.Need-returns-3
 returns-3 c =
@@ -92,7 +82,7 @@ returns-3 c =
     let told = spread-told (args .tape .now) (args .numbers .now) (spread .spread .ensures) (given .pre .2) in
     c .judge .ensures
     ∙ range-judged (args .tape .now) (args .nodes .now) (args .initial) (args .numbers .now) (args .start) (args .bytes .now) (given .pre)
-    told blank whole (made .checker .ensures) (written .write .ensures) (ap saysWritten (range .first .given .1)) (fitting .if1 .left)
+    told blank blank-length (made .checker .ensures) (written .write .ensures) (ap saysWritten (range .first .given .1)) (fitting .if1 .left)
 
 pub check-numbers-spec : {M : Type 1} → statement M
 check-numbers-spec =
