@@ -26,8 +26,8 @@ use Rattle.tries.specs.Write.{rangeOf, saysWritten, imageOr}
 use Rattle.number_list.proofs.Kept.{list-zeros}
 use Rattle.compares.specs.Compared.{builder}
 use Rattle.builds.specs.Build.{Build, triedWith, builtBy}
-use Rattle.builder.specs.Call.{Report, report, Memory, memory, left}
-use Rattle.builder.specs.Steps.{imageFrom, listFrom, finishedIn, triedIn}
+use Rattle.builder.specs.Call.{Report, Memory, memory, left}
+use Rattle.builder.specs.Steps.{leaving, finishedIn, triedIn}
 
 abbrev Reads : Type 0
 Reads = (ℕ → Option ℤ) → ℤ → ℕ → Value
@@ -64,14 +64,15 @@ built-after r xs o few {n} (L, e, is) =
 
 -- what is left of the image and of the list
 abbrev pub Left : AnswerAt Report → (image image′ : List ℕ) (list list′ : List ℤ) → AnswerAt Build → Type 0
-Left b image image′ list list′ a = (b ≡ mapped report a) × (image′ ≡ imageFrom image a) × (list′ ≡ listFrom list a)
+Left b image image′ list list′ a = _≡_ {A = AnswerAt Report × List ℕ × List ℤ} (b, image′, list′) (leaving image list a)
 
 module _ (F : Trying → Build) (image : List ℕ) (list : List ℤ) {w : W.Written} {image′ : List ℕ} where
   pub tried-refused : {m at : ℕ} → w ≡ written.Refused m at → (a : AnswerAt Trying) → saysWritten w ≡ mapped rangeOf a → image′ ≡ imageOr image a
       → {b : AnswerAt Report} → b ≡ Fault m at → Left b image image′ list list (mapped F a)
   tried-refused is (Fine t) e i b = never (cc)
-  tried-refused {m} {at} is (Fault n j) e i b =
-      (b ∙ fault-is (sym (ap saysWritten is) ∙ e), i, refl)
+  tried-refused is (Fault n j) e i b =
+      let refuses = b ∙ fault-is (sym (ap saysWritten is) ∙ e) in
+      λ k. (refuses k, i k, list)
 
   -- the tries being fine: the list has the numbers, and c is how many they are
   pub tried-done : {from to n c : ℕ} {list′ : List ℤ} → w ≡ written.Range from to → (a : AnswerAt Trying) → saysWritten w ≡ mapped rangeOf a
@@ -81,18 +82,18 @@ module _ (F : Trying → Build) (image : List ℕ) (list : List ℤ) {w : W.Writ
       → Left (Fine (from, to, c, n)) image image′ list list′ (mapped F a)
   tried-done {from} {to} is (Fine t) e i told =
       let both : _≡_ {A = ℕ × ℕ} (from, to) (rangeOf t) = fine-value (sym (ap saysWritten is) ∙ e) in
-      let f = told t in (
-        (λ j. Fine ((ap (λ p. p .0) both ∙ sym (f .0)) j, (ap (λ p. p .1) both ∙ sym (f .1)) j, f .3 j, sym (f .4) j)),
-        i ∙ sym (f .2),
-        f .5,
-      )
+      let f = told t in
+      let start = ap (λ p. p .0) both ∙ sym (f .0) in
+      let end = ap (λ p. p .1) both ∙ sym (f .1) in
+      let image = i ∙ sym (f .2) in
+      λ j. (Fine (start j, end j, f .3 j, sym (f .4) j), image j, f .5 j)
   tried-done is (Fault n j) e i told = never (cc)
 
 -- ---- what a build leaves
 
 module _ (image : List ℕ) (list : List ℤ) where
   pub left-refused : {m at : ℕ} {b : AnswerAt Report} (a : AnswerAt Build) → a ≡ Fault m at → b ≡ Fault m at → Left b image image list list a
-  left-refused a e h = rw (e, h) (refl, refl, refl)
+  left-refused a e h = rw (e, h) refl
 
   pub left-same : {b : AnswerAt Report} {image′ : List ℕ} {list′ : List ℤ} (a a′ : AnswerAt Build) → a ≡ a′
       → Left b image image′ list list′ a → Left b image image′ list list′ a′
@@ -104,5 +105,5 @@ module _ (m : Memory) (list : List ℤ) (zero : list ≡ replicate 1024 (pos 0))
   -- all that is left, where the list was zero before the build and the work memory is zero after it
   pub left-all : {b : AnswerAt Report} {image′ : List ℕ} {list′ : List ℤ} {work′ : List ℕ} (a : AnswerAt Build)
       → Left b (m .image) image′ list list′ a → work′ ≡ replicate 65536 0 → (b, memory image′ list′ work′) ≡ left m a
-  left-all (Fine x) h w = λ i. (h .0 i, memory (h .1 i) (h .2 i) (w i))
-  left-all (Fault n at) h w = λ i. (h .0 i, memory (h .1 i) ((h .2 ∙ zero) i) (w i))
+  left-all (Fine x) h w = λ i. (h i .0, memory (h i .1) (h i .2) (w i))
+  left-all (Fault n at) h w = λ i. (h i .0, memory (h i .1) ((ap (λ x. x .2) h ∙ zero) i) (w i))

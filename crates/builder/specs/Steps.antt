@@ -15,16 +15,12 @@ use Rattle.tries.specs.Tries.{Trying, start, tries}
 use Rattle.number_list.specs.Lists.{numberList}
 use Rattle.compares.specs.Compared.{builder}
 use Rattle.builds.specs.Build.{Build}
+use Rattle.builder.specs.Call.{Report, report}
 
--- an image behind a build
-abbrev pub imageFrom : List ℕ → AnswerAt Build → List ℕ
-imageFrom image (Fine b) = b .image
-imageFrom image (Fault n at) = image
-
--- a number list that was zero, behind a build
-abbrev pub listFrom : List ℤ → AnswerAt Build → List ℤ
-listFrom list (Fine b) = filled maxNodes (pos 0) (b .numbers)
-listFrom list (Fault n at) = list
+-- what is answered, and what is left of an image and of a number list that was zero
+abbrev pub leaving : List ℕ → List ℤ → AnswerAt Build → AnswerAt Report × List ℕ × List ℤ
+leaving image list (Fine b) = (Fine (report b), b .image, filled maxNodes (pos 0) (b .numbers))
+leaving image list (Fault n at) = (Fault n at, image, list)
 
 -- the tries with numbers that stand in arrays, by node
 abbrev pub finishedIn : List Statement → ℕ → Numbers → Trying → Build

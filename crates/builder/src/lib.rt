@@ -11,7 +11,7 @@ ghost use mathlib.Core.Path.{_≡_};
 ghost use Prim.Native.Nat.{_+_, _≤_, _<_};
 ghost use lib.IntN.{pos};
 ghost use lib.ListN.{length, replicate};
-ghost use Rattle.refusals.specs.AnswerAt.{Fault, mapped};
+ghost use Rattle.refusals.specs.AnswerAt.{Fault};
 ghost use Rattle.pen.specs.Pens.{size};
 ghost use Rattle.edges.specs.Edges.{maxNodes};
 ghost use Rattle.form.specs.Form.{maxTape};
@@ -20,8 +20,8 @@ ghost use Rattle.walk.specs.Walk.{origin};
 ghost use Rattle.walk.specs.Values.{declarations};
 ghost use Rattle.walk.specs.Numbers.{readsNoted};
 ghost use Rattle.builds.specs.Build.{builtBy, built};
-ghost use Rattle.builder.specs.Call.{workPlaces, isAllowed, memory, buildOf, report, saysBuilt};
-ghost use Rattle.builder.specs.Steps.{imageFrom, listFrom, triedIn};
+ghost use Rattle.builder.specs.Call.{workPlaces, isAllowed, memory, buildOf, saysBuilt};
+ghost use Rattle.builder.specs.Steps.{leaving, triedIn};
 
 // How many bytes an image has; also the greatest place.
 pub const SIZE: usize = 65536;
@@ -111,9 +111,8 @@ fn build_names(
 ) -> Built
     requires { ⌜ (length (now tape) ≤ maxTape) × (initial ≤ size) × (length (now image) ≡ size) × (now list ≡ replicate maxNodes (pos 0))
         × (length (now nodes) ≡ workPlaces) ⌝ }
-    ensures { λ r. ⌜ (saysBuilt r ≡ mapped report (built (now (tape .entry)) (origin initial)))
-        × (now (image .exit) ≡ imageFrom (now (image .entry)) (built (now (tape .entry)) (origin initial)))
-        × (now (list .exit) ≡ listFrom (now (list .entry)) (built (now (tape .entry)) (origin initial)))
+    ensures { λ r. ⌜ ((saysBuilt r, now (image .exit), now (list .exit))
+        ≡ leaving (now (image .entry)) (now (list .entry)) (built (now (tape .entry)) (origin initial)))
         × (length (now (nodes .exit)) ≡ length (now (nodes .entry))) ⌝ }
 {
     let declared = names::declare(tape, nodes);
@@ -134,9 +133,8 @@ fn build_settled<'a>(
 ) -> Built
     requires { ⌜ (length (now tape) ≤ maxTape) × (initial ≤ size) × (length (now image) ≡ size) × (now list ≡ replicate maxNodes (pos 0))
         × (declarations (statements (now tape)) < maxNodes) ⌝ }
-    ensures { λ r. ⌜ (saysBuilt r ≡ mapped report (builtBy (readsNoted (now (tape .entry)) (now (nodes .entry))) (statements (now (tape .entry))) (origin initial)))
-        × (now (image .exit) ≡ imageFrom (now (image .entry)) (builtBy (readsNoted (now (tape .entry)) (now (nodes .entry))) (statements (now (tape .entry))) (origin initial)))
-        × (now (list .exit) ≡ listFrom (now (list .entry)) (builtBy (readsNoted (now (tape .entry)) (now (nodes .entry))) (statements (now (tape .entry))) (origin initial))) ⌝ }
+    ensures { λ r. ⌜ (saysBuilt r, now (image .exit), now (list .exit))
+        ≡ leaving (now (image .entry)) (now (list .entry)) (builtBy (readsNoted (now (tape .entry)) (now (nodes .entry))) (statements (now (tape .entry))) (origin initial)) ⌝ }
 {
     let settled = passes::settle(tape, nodes, initial);
     let answer = settled.answer;
@@ -161,9 +159,8 @@ fn build_tried<'a>(
 ) -> Built
     requires { ⌜ (length (now tape) ≤ maxTape) × (initial ≤ size) × (length (now image) ≡ size) × (now list ≡ replicate maxNodes (pos 0))
         × (declarations (statements (now tape)) < maxNodes) ⌝ }
-    ensures { λ r. ⌜ (saysBuilt r ≡ mapped report (triedIn (readsNoted (now (tape .entry)) (now (nodes .entry))) (statements (now (tape .entry))) (origin initial) passes numbers))
-        × (now (image .exit) ≡ imageFrom (now (image .entry)) (triedIn (readsNoted (now (tape .entry)) (now (nodes .entry))) (statements (now (tape .entry))) (origin initial) passes numbers))
-        × (now (list .exit) ≡ listFrom (now (list .entry)) (triedIn (readsNoted (now (tape .entry)) (now (nodes .entry))) (statements (now (tape .entry))) (origin initial) passes numbers)) ⌝ }
+    ensures { λ r. ⌜ (saysBuilt r, now (image .exit), now (list .exit))
+        ≡ leaving (now (image .entry)) (now (list .entry)) (triedIn (readsNoted (now (tape .entry)) (now (nodes .entry))) (statements (now (tape .entry))) (origin initial) passes numbers) ⌝ }
 {
     match tries::write(tape, nodes, numbers, initial, compares::builder(), image) {
         Written::Refused { number, at } => refused(number, at),

@@ -63,8 +63,8 @@ returns-2 c =
     let told = built .build-names .ensures in
     let m = memory (args .image .now) (args .numbers .now) (args .work .now) in
     let zero = zeroed .clear .ensures ∙ ap (λ (n : ℕ). replicate n (pos 0)) (fine .list) in
-    let work = worked .zero-work .ensures ∙ ap (λ (n : ℕ). replicate n 0) (told .3 ∙ fine .work) in
-    left-all m _ zero (Build.built (args .tape .now) (origin (args .initial))) (told .0, told .1, told .2) work
+    let work = worked .zero-work .ensures ∙ ap (λ (n : ℕ). replicate n 0) (told .1 ∙ fine .work) in
+    left-all m _ zero (Build.built (args .tape .now) (origin (args .initial))) (told .0) work
     ∙ at-true (left m (Build.built (args .tape .now) (origin (args .initial)))) _ is
 
 pub build-spec : {M : Type 1} → statement M

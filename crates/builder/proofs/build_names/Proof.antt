@@ -43,7 +43,7 @@ returns c =
     let refuses = names-refused (told .answer .given .1) _ (declared .declare .ensures .0) in
     let fault = built-fault (args .tape .now) (origin (args .initial)) (sym (declare-is (args .tape .now) (given .pre .4)) ∙ refuses) in
     let l = left-refused (args .image .now) (args .list .now) (built (args .tape .now) (origin (args .initial))) fault (c .refused .ensures) in
-    (l .0, l .1, l .2, nodes .nodes .given)
+    (l, nodes .nodes .given)
 
 same-length-2 : tie.Need-same-length-2
 same-length-2 c = search needs
@@ -66,7 +66,7 @@ returns-2 c =
     let is = sym (declare-is (args .tape .now) (given .pre .4)) ∙ found .1 in
     let same = built-noted (args .tape .now) (origin (args .initial)) is (args .nodes .now) (given .pre .4) (declared .declare .ensures .1) in
     let l = left-same (args .image .now) (args .list .now) _ (built (args .tape .now) (origin (args .initial))) same (settled .build-settled .ensures) in
-    (l .0, l .1, l .2, nodes .nodes .given)
+    (l, nodes .nodes .given)
 
 pub build-names-spec : {M : Type 1} → statement M
 build-names-spec =
