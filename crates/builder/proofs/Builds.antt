@@ -10,24 +10,25 @@ use Rattle.refusals.specs.AnswerAt.{AnswerAt, Fine, Fault, mapped, andThen}
 use Rattle.refusals.proofs.Never.{never}
 use Rattle.refusals.proofs.Answers.{fine-value, fault-is}
 use Rattle.symbols.specs.Symbols.{numberOr0}
-use Rattle.form.specs.Statements.{Statement}
+use Rattle.form.specs.Statements.{Statement, statements}
 use Rattle.evaluator.specs.Expression.{Value}
 use Rattle.walk.specs.declared.Numbers.{Numbers}
-use Rattle.walk.specs.Walk.{Origin}
+use Rattle.walk.specs.Walk.{Origin, origin}
 use Rattle.walk.specs.Values.{Values, numbered, declarations}
-use Rattle.walk.specs.Numbers.{filled, numbersBy}
+use Rattle.walk.specs.Numbers.{filled, numbersIn, numbersBy, readsNoted}
 use Rattle.walk.proofs.Columns.{by-node}
 use Rattle.passes.specs.Passes.{settled}
 use Rattle.passes.proofs.Settles.{least, passes-length}
 use Rattle.tries.specs.declared.Written as W
 use Rattle.tries.specs.declared.Written.the-variants as written
 use Rattle.tries.specs.Tries.{Trying, start, tries}
-use Rattle.tries.specs.Write.{rangeOf, saysWritten, imageOr}
+use Rattle.tries.specs.Write.{triedAll, rangeOf, saysWritten, imageOr}
 use Rattle.number_list.proofs.Kept.{list-zeros}
 use Rattle.compares.specs.Compared.{builder}
 use Rattle.builds.specs.Build.{Build, triedWith, builtBy}
+use Rattle.builds.proofs.Builds.{built-refused}
 use Rattle.builder.specs.Call.{Report, Memory, memory, left}
-use Rattle.builder.specs.Steps.{leaving, finishedIn, triedIn}
+use Rattle.builder.specs.Steps.{leaving, builtOn, finishedIn, triedOn}
 
 abbrev Reads : Type 0
 Reads = (ℕ → Option ℤ) → ℤ → ℕ → Value
@@ -35,8 +36,14 @@ Reads = (ℕ → Option ℤ) → ℤ → ℕ → Value
 -- ---- numbers that stand in arrays
 
 module _ (r : Reads) (xs : List Statement) (o : Origin) (few : declarations xs < 1024) where
-  pub tried-arrays : (n : ℕ) (L : Values) → settled r xs o ≡ Fine (n, L) → triedIn r xs o n (numbersBy L) ≡ triedWith r xs o (n, L)
-  unfolding triedIn numbersBy
+  -- the tries with settled numbers, taken by node
+  abbrev arrays : ℕ → Values → AnswerAt Build
+  arrays n L =
+      let numbers = numbersBy L in
+      mapped (finishedIn xs n numbers) (tries r builder (numbersIn (numbers .known) (numbers .number)) (start o) xs)
+
+  tried-arrays : (n : ℕ) (L : Values) → settled r xs o ≡ Fine (n, L) → arrays n L ≡ triedWith r xs o (n, L)
+  unfolding numbersBy
   tried-arrays n L e =
       let short : length L < 1024 = omega (arith, ap length (least r xs o e .1), passes-length r xs o n) in
       ap (λ (f : ℕ → Option ℤ). mapped (finishedIn xs n (numbersBy L)) (tries r builder f (start o) xs)) (by-node L short)
@@ -52,13 +59,22 @@ module _ (r : Reads) (xs : List Statement) (o : Origin) (few : declarations xs <
       }
 
 -- the build is then the tries with these numbers
-pub built-after : (r : Reads) (xs : List Statement) (o : Origin) → declarations xs < 1024 → {n : ℕ} {numbers : Numbers}
-    → (L : Values) × (settled r xs o ≡ Fine (n, L)) × (numbers ≡ numbersBy L) → triedIn r xs o n numbers ≡ builtBy r xs o
-unfolding builtBy
-built-after r xs o few {n} (L, e, is) =
-    ap (triedIn r xs o n) is
+pub built-after : (tape nodes : List ℕ) (initial : ℕ) → declarations (statements tape) < 1024 → {n : ℕ} {numbers : Numbers}
+    → (L : Values) × (settled (readsNoted tape nodes) (statements tape) (origin initial) ≡ Fine (n, L)) × (numbers ≡ numbersBy L)
+    → triedOn tape nodes initial n numbers ≡ builtOn tape nodes initial
+unfolding triedOn triedAll builtOn builtBy
+built-after tape nodes initial few {n} (L, e, is) =
+    let r = readsNoted tape nodes in
+    let xs = statements tape in
+    let o = origin initial in
+    ap (triedOn tape nodes initial n) is
     ∙ tried-arrays r xs o few n L e
     ∙ sym (ap (λ (a : AnswerAt (ℕ × Values)). andThen a (triedWith r xs o)) e)
+
+pub built-stopped : (tape nodes : List ℕ) (initial : ℕ) {m at : ℕ}
+    → settled (readsNoted tape nodes) (statements tape) (origin initial) ≡ Fault m at → builtOn tape nodes initial ≡ Fault m at
+unfolding builtOn
+built-stopped tape nodes initial e = built-refused (readsNoted tape nodes) (statements tape) (origin initial) e
 
 -- ---- what the tries answer
 

@@ -1,20 +1,19 @@
 -- What private functions promise each other on the way. No public promise cites these. Assumes nothing: these are definitions.
 use Prim.Native.Nat.{ℕ}
 use mathlib.Core.List.{List}
-use mathlib.Core.Option.{Option}
 use lib.IntN.{ℤ, pos}
 use lib.ListN.{drop}
 use Rattle.refusals.specs.AnswerAt.{AnswerAt, Fine, Fault, mapped}
 use Rattle.edges.specs.Edges.{maxNodes}
-use Rattle.form.specs.Statements.{Statement}
-use Rattle.evaluator.specs.Expression.{Value}
+use Rattle.form.specs.Statements.{Statement, statements}
 use Rattle.walk.specs.declared.Numbers.{Numbers}
-use Rattle.walk.specs.Walk.{Origin}
-use Rattle.walk.specs.Numbers.{filled, numbersIn}
-use Rattle.tries.specs.Tries.{Trying, start, tries}
+use Rattle.walk.specs.Walk.{origin}
+use Rattle.walk.specs.Numbers.{filled, readsNoted}
+use Rattle.tries.specs.Tries.{Trying}
+use Rattle.tries.specs.Write.{triedAll}
 use Rattle.number_list.specs.Lists.{numberList}
 use Rattle.compares.specs.Compared.{builder}
-use Rattle.builds.specs.Build.{Build}
+use Rattle.builds.specs.Build.{Build, builtBy}
 use Rattle.builder.specs.Call.{Report, report}
 
 -- what is answered, and what is left of an image and of a number list that was zero
@@ -22,7 +21,11 @@ abbrev pub leaving : List ℕ → List ℤ → AnswerAt Build → AnswerAt Repor
 leaving image list (Fine b) = (Fine (report b), b .image, filled maxNodes (pos 0) (b .numbers))
 leaving image list (Fault n at) = (Fault n at, image, list)
 
--- the tries with numbers that stand in arrays, by node
+-- the build of a tape whose names have been noted
+unfoldable pub builtOn : (tape nodes : List ℕ) (initial : ℕ) → AnswerAt Build
+builtOn tape nodes initial = builtBy (readsNoted tape nodes) (statements tape) (origin initial)
+
+-- behind its passes, with settled numbers that stand in arrays, by node
 abbrev pub finishedIn : List Statement → ℕ → Numbers → Trying → Build
 finishedIn xs n numbers t = record {
   start = t .page .pen .start;
@@ -32,6 +35,6 @@ finishedIn xs n numbers t = record {
   passes = n;
 }
 
-unfoldable pub triedIn : ((ℕ → Option ℤ) → ℤ → ℕ → Value) → List Statement → Origin → ℕ → Numbers → AnswerAt Build
-triedIn reads xs o n numbers =
-    mapped (finishedIn xs n numbers) (tries reads builder (numbersIn (numbers .known) (numbers .number)) (start o) xs)
+unfoldable pub triedOn : (tape nodes : List ℕ) (initial passes : ℕ) (numbers : Numbers) → AnswerAt Build
+triedOn tape nodes initial passes numbers =
+    mapped (finishedIn (statements tape) passes numbers) (triedAll tape nodes numbers initial builder)

@@ -18,10 +18,9 @@ ghost use Rattle.form.specs.Form.{maxTape};
 ghost use Rattle.form.specs.Statements.{statements};
 ghost use Rattle.walk.specs.Walk.{origin};
 ghost use Rattle.walk.specs.Values.{declarations};
-ghost use Rattle.walk.specs.Numbers.{readsNoted};
-ghost use Rattle.builds.specs.Build.{builtBy, built};
+ghost use Rattle.builds.specs.Build.{built};
 ghost use Rattle.builder.specs.Call.{workPlaces, isAllowed, memory, buildOf, saysBuilt};
-ghost use Rattle.builder.specs.Steps.{leaving, triedIn};
+ghost use Rattle.builder.specs.Steps.{leaving, builtOn, triedOn};
 
 // How many bytes an image has; also the greatest place.
 pub const SIZE: usize = 65536;
@@ -134,7 +133,7 @@ fn build_settled<'a>(
     requires { ⌜ (length (now tape) ≤ maxTape) × (initial ≤ size) × (length (now image) ≡ size) × (now list ≡ replicate maxNodes (pos 0))
         × (declarations (statements (now tape)) < maxNodes) ⌝ }
     ensures { λ r. ⌜ (saysBuilt r, now (image .exit), now (list .exit))
-        ≡ leaving (now (image .entry)) (now (list .entry)) (builtBy (readsNoted (now (tape .entry)) (now (nodes .entry))) (statements (now (tape .entry))) (origin initial)) ⌝ }
+        ≡ leaving (now (image .entry)) (now (list .entry)) (builtOn (now (tape .entry)) (now (nodes .entry)) initial) ⌝ }
 {
     let settled = passes::settle(tape, nodes, initial);
     let answer = settled.answer;
@@ -160,7 +159,7 @@ fn build_tried<'a>(
     requires { ⌜ (length (now tape) ≤ maxTape) × (initial ≤ size) × (length (now image) ≡ size) × (now list ≡ replicate maxNodes (pos 0))
         × (declarations (statements (now tape)) < maxNodes) ⌝ }
     ensures { λ r. ⌜ (saysBuilt r, now (image .exit), now (list .exit))
-        ≡ leaving (now (image .entry)) (now (list .entry)) (triedIn (readsNoted (now (tape .entry)) (now (nodes .entry))) (statements (now (tape .entry))) (origin initial) passes numbers) ⌝ }
+        ≡ leaving (now (image .entry)) (now (list .entry)) (triedOn (now (tape .entry)) (now (nodes .entry)) initial passes numbers) ⌝ }
 {
     match tries::write(tape, nodes, numbers, initial, compares::builder(), image) {
         Written::Refused { number, at } => refused(number, at),

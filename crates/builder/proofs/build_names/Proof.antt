@@ -3,6 +3,7 @@ use mathlib.Core.Path.{sym, _∙_}
 use Rattle.walk.specs.Walk.{origin}
 use Rattle.reads.proofs.Names.{names-refused, names-done, declare-is, few-names}
 use Rattle.builds.specs.Build.{built}
+use Rattle.builder.specs.Steps.{builtOn}
 use Rattle.builds.proofs.Names.{built-fault, built-noted}
 use Rattle.builder.proofs.Builds.{left-refused, left-same}
 use borrow.Author.Needs.{needs}
@@ -55,6 +56,7 @@ same-length-4 : tie.Need-same-length-4
 same-length-4 c = search needs
 
 returns-2 : tie.Need-returns-2
+unfolding builtOn
 returns-2 c =
     let settled = c .before .before .before in
     let told = settled .before .before .before .before in

@@ -5,10 +5,9 @@ use Rattle.walk.specs.Walk.{origin}
 use Rattle.walk.specs.Numbers.{readsNoted}
 use Rattle.passes.specs.Passes as Passes
 use Rattle.passes.specs.Settle.{settleOf, left}
-use Rattle.builds.specs.Build.{builtBy}
+use Rattle.builder.specs.Steps.{builtOn}
 use Rattle.builds.proofs.Settling.{settle-allowed, settled-refused, settled-after}
-use Rattle.builds.proofs.Builds.{built-refused}
-use Rattle.builder.proofs.Builds.{built-after, left-refused, left-same}
+use Rattle.builder.proofs.Builds.{built-after, built-stopped, left-refused, left-same}
 use borrow.Author.Needs.{needs}
 use Rattle.builder.proofs.build_settled.Statement.{statement}
 use Rattle.builder.proofs.build_settled.Tie as tie
@@ -35,11 +34,9 @@ returns c =
     let given = settled .before .before .before .before in
     let args = given .args in
     let all = settle-allowed (args .tape .now) (args .nodes .now) (args .initial) (given .pre .0) (given .pre .1) (given .pre .4) in
-    let reads = readsNoted (args .tape .now) (args .nodes .now) in
-    let xs = statements (args .tape .now) in
-    let o = origin (args .initial) in
     let refuses = settled-refused (told .answer .given .1) (settleOf (args .tape .now) (args .nodes .now) (args .initial)) (settled .settle .ensures) in
-    left-refused (args .image .now) (args .list .now) (builtBy reads xs o) (built-refused reads xs o (sym all ∙ refuses)) (c .refused .ensures)
+    left-refused (args .image .now) (args .list .now) (builtOn (args .tape .now) (args .nodes .now) (args .initial))
+    (built-stopped (args .tape .now) (args .nodes .now) (args .initial) (sym all ∙ refuses)) (c .refused .ensures)
 
 same-length : tie.Need-same-length
 same-length c = search needs
@@ -55,12 +52,11 @@ returns-2 c =
     let given = settled .before .before .before .before in
     let args = given .args in
     let all = settle-allowed (args .tape .now) (args .nodes .now) (args .initial) (given .pre .0) (given .pre .1) (given .pre .4) in
-    let reads = readsNoted (args .tape .now) (args .nodes .now) in
-    let xs = statements (args .tape .now) in
-    let o = origin (args .initial) in
     let found =
-    settled-after (told .answer2 .given .1) (Passes.settled reads xs o) (settled .settle .ensures ∙ ap left all) in
-    left-same (args .image .now) (args .list .now) _ (builtBy reads xs o) (built-after reads xs o (given .pre .4) found) (tried .build-tried .ensures)
+    settled-after (told .answer2 .given .1) (Passes.settled (readsNoted (args .tape .now) (args .nodes .now)) (statements (args .tape .now)) (origin (args .initial)))
+    (settled .settle .ensures ∙ ap left all) in
+    left-same (args .image .now) (args .list .now) _ (builtOn (args .tape .now) (args .nodes .now) (args .initial))
+    (built-after (args .tape .now) (args .nodes .now) (args .initial) (given .pre .4) found) (tried .build-tried .ensures)
 
 pub build-settled-spec : {M : Type 1} → statement M
 build-settled-spec =

@@ -5,7 +5,7 @@ use Rattle.refusals.specs.AnswerAt.{mapped}
 use Rattle.form.specs.Statements.{statements}
 use Rattle.tries.specs.Write.{triedAll, rangeOf, imageOr}
 use Rattle.compares.specs.Compared.{builder}
-use Rattle.builder.specs.Steps.{finishedIn, triedIn}
+use Rattle.builder.specs.Steps.{finishedIn, triedOn}
 use Rattle.tries.proofs.Agrees.{write-by, write-allowed}
 use Rattle.number_list.proofs.Kept.{gather-told}
 use Rattle.builder.proofs.Builds.{tried-refused, tried-done}
@@ -35,7 +35,7 @@ same-length : tie.Need-same-length
 same-length c = search needs
 
 returns : tie.Need-returns
-unfolding triedIn triedAll
+unfolding triedOn
 returns c =
     let told = c .before .before in
     let written = told .before .before .before .before in
@@ -55,7 +55,7 @@ same-length-3 : tie.Need-same-length-3
 same-length-3 c = search needs
 
 returns-2 : tie.Need-returns-2
-unfolding triedIn triedAll
+unfolding triedOn
 returns-2 c =
     let listed = c .before in
     let told = listed .before .before .before .before .before .before in
