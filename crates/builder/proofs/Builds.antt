@@ -47,7 +47,8 @@ module _ (r : Reads) (xs : List Statement) (o : Origin) (few : declarations xs <
   tried-arrays n L e =
       let short : length L < 1024 = omega (arith, ap length (least r xs o e .1), passes-length r xs o n) in
       ap (λ (f : ℕ → Option ℤ). mapped (finishedIn xs n (numbersBy L)) (tries r builder f (start o) xs)) (by-node L short)
-      ∙ ap (λ (l : List ℤ). mapped (λ t. withNumbers l t) (tries r builder (numbered L) (start o) xs)) (list-zeros xs (map numberOr0 L) (1024 - length (pos 0 ∷ map numberOr0 L)))
+      ∙ ap (λ (l : List ℤ). mapped (λ t. withNumbers l t) (tries r builder (numbered L) (start o) xs))
+      (list-zeros xs (map numberOr0 L) (1024 - length (pos 0 ∷ map numberOr0 L)))
     where
       withNumbers : List ℤ → Trying → Build
       withNumbers l t = record {
@@ -83,8 +84,8 @@ abbrev pub Left : AnswerAt Report → (image image′ : List ℕ) (list list′ 
 Left b image image′ list list′ a = _≡_ {A = AnswerAt Report × List ℕ × List ℤ} (b, image′, list′) (leaving image list a)
 
 module _ (F : Trying → Build) (image : List ℕ) (list : List ℤ) {w : W.Written} {image′ : List ℕ} where
-  pub tried-refused : {m at : ℕ} → w ≡ written.Refused m at → (a : AnswerAt Trying) → saysWritten w ≡ mapped rangeOf a → image′ ≡ imageOr image a
-      → {b : AnswerAt Report} → b ≡ Fault m at → Left b image image′ list list (mapped F a)
+  pub tried-refused : {m at : ℕ} → w ≡ written.Refused m at → (a : AnswerAt Trying) → saysWritten w ≡ mapped rangeOf a
+      → image′ ≡ imageOr image a → {b : AnswerAt Report} → b ≡ Fault m at → Left b image image′ list list (mapped F a)
   tried-refused is (Fine t) e i b = never (cc)
   tried-refused is (Fault n j) e i b =
       let refuses = b ∙ fault-is (sym (ap saysWritten is) ∙ e) in
@@ -108,7 +109,8 @@ module _ (F : Trying → Build) (image : List ℕ) (list : List ℤ) {w : W.Writ
 -- ---- what a build leaves
 
 module _ (image : List ℕ) (list : List ℤ) where
-  pub left-refused : {m at : ℕ} {b : AnswerAt Report} (a : AnswerAt Build) → a ≡ Fault m at → b ≡ Fault m at → Left b image image list list a
+  pub left-refused : {m at : ℕ} {b : AnswerAt Report} (a : AnswerAt Build) → a ≡ Fault m at → b ≡ Fault m at
+      → Left b image image list list a
   left-refused a e h = rw (e, h) refl
 
   pub left-same : {b : AnswerAt Report} {image′ : List ℕ} {list′ : List ℤ} (a a′ : AnswerAt Build) → a ≡ a′

@@ -49,7 +49,8 @@ module _ (tape : List ℕ) (o : Origin) where
   unfolding built builtBy
   finished-build {b} e = named (namesOf tape) refl e
     where
-      written : (t : SymbolTable) → namesOf tape ≡ Fine t → (n : ℕ) (L : Values) → settled (readsOn tape t) (statements tape) o ≡ Fine (n, L)
+      written : (t : SymbolTable) → namesOf tape ≡ Fine t → (n : ℕ) (L : Values)
+          → settled (readsOn tape t) (statements tape) o ≡ Fine (n, L)
           → (a : AnswerAt Trying) → tries (readsOn tape t) builder (numbered L) (start o) (statements tape) ≡ a
           → mapped (finished (readsOn tape t) (statements tape) o n L) a ≡ Fine b → Built tape o b
       written t is n L settles (Fine w) tried e =

@@ -22,7 +22,8 @@ use Rattle.passes.specs.Settle.{settleOf, saysPasses}
 use Rattle.passes.proofs.Counting.{allowed-by}
 
 module _ {p : P.Passes} {numbers : Numbers} where
-  pub settled-refused : {m at : ℕ} → p ≡ after.Refused m at → (a : AnswerAt (ℕ × Values)) → (saysPasses p, numbers) ≡ S.left a → a ≡ Fault m at
+  pub settled-refused : {m at : ℕ} → p ≡ after.Refused m at → (a : AnswerAt (ℕ × Values))
+      → (saysPasses p, numbers) ≡ S.left a → a ≡ Fault m at
   settled-refused is (Fine (n, L)) e = never (let f = sym (ap saysPasses is) ∙ ap (λ x. x .0) e in cc)
   settled-refused is (Fault n i) e = sym (fault-is (sym (ap saysPasses is) ∙ ap (λ x. x .0) e))
 

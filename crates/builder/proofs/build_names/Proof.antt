@@ -29,7 +29,8 @@ build-settled-requires c κs =
     let given = declared .before .before .before .before .before in
     let args = given .args in
     let found = names-done (told .enum-told .given .1) _ (declared .declare .ensures .0) in
-    (given .pre .0, given .pre .1, given .pre .2, given .pre .3, few-names (args .tape .now) (sym (declare-is (args .tape .now) (given .pre .4)) ∙ found .1))
+    let is = sym (declare-is (args .tape .now) (given .pre .4)) ∙ found .1 in
+    (given .pre .0, given .pre .1, given .pre .2, given .pre .3, few-names (args .tape .now) is)
 
 same-length : tie.Need-same-length
 same-length c = search needs
@@ -43,8 +44,9 @@ returns c =
     let args = given .args in
     let refuses = names-refused (told .answer .given .1) _ (declared .declare .ensures .0) in
     let fault = built-fault (args .tape .now) (origin (args .initial)) (sym (declare-is (args .tape .now) (given .pre .4)) ∙ refuses) in
-    let l = left-refused (args .image .now) (args .list .now) (built (args .tape .now) (origin (args .initial))) fault (c .refused .ensures) in
-    (l, nodes .nodes .given)
+    let image = args .image .now in
+    let list = args .list .now in
+    (left-refused image list (built (args .tape .now) (origin (args .initial))) fault (c .refused .ensures), nodes .nodes .given)
 
 same-length-2 : tie.Need-same-length-2
 same-length-2 c = search needs
@@ -66,9 +68,10 @@ returns-2 c =
     let args = given .args in
     let found = names-done (told .enum-told .given .1) _ (declared .declare .ensures .0) in
     let is = sym (declare-is (args .tape .now) (given .pre .4)) ∙ found .1 in
-    let same = built-noted (args .tape .now) (origin (args .initial)) is (args .nodes .now) (given .pre .4) (declared .declare .ensures .1) in
-    let l = left-same (args .image .now) (args .list .now) _ (built (args .tape .now) (origin (args .initial))) same (settled .build-settled .ensures) in
-    (l, nodes .nodes .given)
+    let o = origin (args .initial) in
+    let same = built-noted (args .tape .now) o is (args .nodes .now) (given .pre .4) (declared .declare .ensures .1) in
+    let all = left-same (args .image .now) (args .list .now) _ (built (args .tape .now) o) same (settled .build-settled .ensures) in
+    (all, nodes .nodes .given)
 
 pub build-names-spec : {M : Type 1} → statement M
 build-names-spec =

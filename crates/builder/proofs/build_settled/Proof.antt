@@ -34,7 +34,8 @@ returns c =
     let given = settled .before .before .before .before in
     let args = given .args in
     let all = settle-allowed (args .tape .now) (args .nodes .now) (args .initial) (given .pre .0) (given .pre .1) (given .pre .4) in
-    let refuses = settled-refused (told .answer .given .1) (settleOf (args .tape .now) (args .nodes .now) (args .initial)) (settled .settle .ensures) in
+    let by = settleOf (args .tape .now) (args .nodes .now) (args .initial) in
+    let refuses = settled-refused (told .answer .given .1) by (settled .settle .ensures) in
     left-refused (args .image .now) (args .list .now) (builtOn (args .tape .now) (args .nodes .now) (args .initial))
     (built-stopped (args .tape .now) (args .nodes .now) (args .initial) (sym all ∙ refuses)) (c .refused .ensures)
 
@@ -52,9 +53,9 @@ returns-2 c =
     let given = settled .before .before .before .before in
     let args = given .args in
     let all = settle-allowed (args .tape .now) (args .nodes .now) (args .initial) (given .pre .0) (given .pre .1) (given .pre .4) in
-    let found =
-    settled-after (told .answer2 .given .1) (Passes.settled (readsNoted (args .tape .now) (args .nodes .now)) (statements (args .tape .now)) (origin (args .initial)))
-    (settled .settle .ensures ∙ ap left all) in
+    let reads = readsNoted (args .tape .now) (args .nodes .now) in
+    let by = Passes.settled reads (statements (args .tape .now)) (origin (args .initial)) in
+    let found = settled-after (told .answer2 .given .1) by (settled .settle .ensures ∙ ap left all) in
     left-same (args .image .now) (args .list .now) _ (builtOn (args .tape .now) (args .nodes .now) (args .initial))
     (built-after (args .tape .now) (args .nodes .now) (args .initial) (given .pre .4) found) (tried .build-tried .ensures)
 

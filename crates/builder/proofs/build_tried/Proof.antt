@@ -43,10 +43,13 @@ returns c =
     let given = made .before .before .before .before in
     let args = given .args in
     let all = write-by (args .tape .now) (args .nodes .now) (args .t3) (args .initial) (length (args .image .now)) (made .builder .ensures)
-    ∙ write-allowed (args .tape .now) (args .nodes .now) (args .t3) (args .initial) builder (given .pre .0) (given .pre .1) (given .pre .2) in
-    tried-refused (finishedIn (statements (args .tape .now)) (args .passes) (args .t3)) (args .image .now) (args .list .now) (told .number .given .1)
+    ∙ write-allowed (args .tape .now) (args .nodes .now) (args .t3) (args .initial) builder (given .pre .0) (given .pre .1)
+    (given .pre .2) in
+    tried-refused (finishedIn (statements (args .tape .now)) (args .passes) (args .t3))
+    (args .image .now) (args .list .now) (told .number .given .1)
     (triedAll (args .tape .now) (args .nodes .now) (args .t3) (args .initial) builder)
-    (written .write .ensures .0 ∙ ap (mapped rangeOf) all) (written .write .ensures .1 ∙ ap (imageOr (args .image .now)) all) (c .refused .ensures)
+    (written .write .ensures .0 ∙ ap (mapped rangeOf) all)
+    (written .write .ensures .1 ∙ ap (imageOr (args .image .now)) all) (c .refused .ensures)
 
 same-length-2 : tie.Need-same-length-2
 same-length-2 c = search needs
@@ -64,9 +67,11 @@ returns-2 c =
     let given = made .before .before .before .before in
     let args = given .args in
     let all = write-by (args .tape .now) (args .nodes .now) (args .t3) (args .initial) (length (args .image .now)) (made .builder .ensures)
-    ∙ write-allowed (args .tape .now) (args .nodes .now) (args .t3) (args .initial) builder (given .pre .0) (given .pre .1) (given .pre .2) in
+    ∙ write-allowed (args .tape .now) (args .nodes .now) (args .t3) (args .initial) builder (given .pre .0) (given .pre .1)
+    (given .pre .2) in
     let told-list = gather-told (args .tape .now) (args .t3 .number) (listed .gather .ensures) (given .pre .3) (given .pre .4) in
-    tried-done (finishedIn (statements (args .tape .now)) (args .passes) (args .t3)) (args .image .now) (args .list .now) (told .start .given .1)
+    tried-done (finishedIn (statements (args .tape .now)) (args .passes) (args .t3))
+    (args .image .now) (args .list .now) (told .start .given .1)
     (triedAll (args .tape .now) (args .nodes .now) (args .t3) (args .initial) builder)
     (written .write .ensures .0 ∙ ap (mapped rangeOf) all) (written .write .ensures .1 ∙ ap (imageOr (args .image .now)) all)
     (λ t. (refl, refl, refl, told-list .0, refl, told-list .1))

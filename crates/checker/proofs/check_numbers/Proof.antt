@@ -82,7 +82,8 @@ returns-3 c =
     let told = spread-told (args .tape .now) (args .numbers .now) (spread .spread .ensures) (given .pre .2) in
     c .judge .ensures
     ∙ range-judged (args .tape .now) (args .nodes .now) (args .initial) (args .numbers .now) (args .start) (args .bytes .now) (given .pre)
-    told blank blank-length (made .checker .ensures) (written .write .ensures) (ap saysWritten (range .first .given .1)) (fitting .if1 .left)
+    told blank blank-length (made .checker .ensures) (written .write .ensures) (ap saysWritten (range .first .given .1))
+    (fitting .if1 .left)
 
 pub check-numbers-spec : {M : Type 1} → statement M
 check-numbers-spec =
