@@ -8,7 +8,7 @@ use symbols::NODES;
 use tries::Written;
 use walk::Numbers;
 ghost use mathlib.Core.Path.{_≡_};
-ghost use Prim.Native.Nat.{_+_, _≤_, _<_};
+ghost use Prim.Native.Nat.{_≤_, _<_};
 ghost use lib.IntN.{pos};
 ghost use lib.ListN.{length, replicate};
 ghost use Rattle.refusals.specs.AnswerAt.{Fault};
