@@ -1,5 +1,4 @@
--- Numbers that stand in arrays give the same check, and so do the notes of a tape's names; and what the tries answer, judged.
--- Assumes nothing.
+-- Numbers that stand in arrays give the same check, and so do the notes of a tape's names. Assumes nothing.
 use mathlib.Core.Bool.{true, _&&_, and-eq-true-iff}
 use mathlib.Core.List.{List}
 use mathlib.Core.Option.{Option}
@@ -11,10 +10,8 @@ use lib.IntN.{ℤ}
 use lib.ListN.{length, replicate, length-replicate}
 use borrow.Author.Tests.{eq-eqb, ne-eqb, leb-true}
 use Rattle.refusals.specs.Answer.{pick}
-use Rattle.refusals.specs.AnswerAt.{AnswerAt, Fine, Fault, mapped, andThen}
-use Rattle.refusals.specs.Table.{numberDiffers, bytesDiffer}
-use Rattle.refusals.proofs.Never.{never}
-use Rattle.refusals.proofs.Answers.{fault-is}
+use Rattle.refusals.specs.AnswerAt.{AnswerAt, Fine, Fault, andThen}
+use Rattle.refusals.specs.Table.{numberDiffers}
 use Rattle.pen.specs.Pens.{size}
 use Rattle.symbols.specs.declared.SymbolTable.{SymbolTable}
 use Rattle.form.specs.Form.{maxTape}
@@ -24,27 +21,26 @@ use Rattle.names.specs.Names.{namesOf, declareOf, notesAfter}
 use Rattle.names.proofs.Kept.{notes-are}
 use Rattle.walk.specs.declared.Numbers.{Numbers}
 use Rattle.walk.specs.Walk.{Origin, origin}
-use Rattle.walk.specs.Values.{numbered, declarations, same}
+use Rattle.walk.specs.Values.{numbered, declarations}
 use Rattle.walk.specs.Numbers.{numbersIn, numbersBy, readsNoted}
 use Rattle.walk.proofs.Agrees.{Alike}
 use Rattle.walk.proofs.Columns.{by-node}
 use Rattle.tries.specs.Tries.{Trying, start, tries}
-use Rattle.tries.specs.Write.{triedAll, writeOf, rangeOf, imageOr}
-use Rattle.tries.proofs.Agrees.{tries-alike, write-by, write-allowed}
-use Rattle.tries.proofs.Sound.{tries-sound}
+use Rattle.tries.specs.Write.{triedAll, writeOf}
+use Rattle.tries.proofs.Agrees.{tries-alike, write-allowed}
 use Rattle.reads.specs.Reads.{readsOn}
 use Rattle.reads.proofs.Names.{declare-is}
 use Rattle.reads.proofs.Reading.{all-alike}
 use Rattle.number_list.specs.Lists.{count, valuesOf}
 use Rattle.number_list.proofs.Kept.{values-length}
-use Rattle.compares.specs.declared.Compares.{Compares}
 use Rattle.compares.specs.Compared.{checker}
-use Rattle.checker.specs.Check.{covered, isWritten, judged, checkedBy, checked}
+use Rattle.verdict.specs.Verdict.{judged, verdictOf}
+use Rattle.checker.specs.Check.{checkedBy, checked}
 use Rattle.checker.specs.Call.{isAllowed}
 
 -- ---- memory of the call's own
 
--- the notes before the names, and the image before the tries
+-- the notes before the names
 abbrev pub blank : List ℕ
 blank = replicate 65536 0
 
@@ -74,11 +70,6 @@ allowed t i s b e =
 
 -- ---- the check of a tape whose names have been resolved
 
--- the range of an answer
-abbrev rangeIn : AnswerAt (ℕ × ℕ) → ℕ × ℕ
-rangeIn (Fine r) = r
-rangeIn (Fault n at) = (0, 0)
-
 -- from: the start that is checked
 module _ (tape nodes : List ℕ) (initial : ℕ) (numbers : List ℤ) (from : ℕ) (bytes : List ℕ) where
   abbrev xs : List Statement
@@ -100,62 +91,20 @@ module _ (tape nodes : List ℕ) (initial : ℕ) (numbers : List ℤ) (from : �
     unfolding checkedBy
     numbers-fit e = rw (eq-eqb (length numbers) (count xs) (sym e ∙ n-is))
 
-  -- the numbers stand in arrays, and a and image′ are what the tries with them give
+  -- the numbers stand in arrays
   module _ (asked : (length tape ≤ maxTape) × (initial ≤ size) × (declarations xs < 1024)) {n : ℕ} {held : Numbers}
-      (spread : (n ≡ count xs) × (held ≡ numbersBy (valuesOf xs numbers)))
-      (image : List ℕ) (whole : length image ≡ size) {d : Compares} (d-is : d ≡ checker) {a : AnswerAt (ℕ × ℕ)} {image′ : List ℕ}
-      (told : (a ≡ mapped rangeOf (writeOf tape nodes held initial d (length image)))
-      × (image′ ≡ imageOr image (writeOf tape nodes held initial d (length image)))) where
-    by-arrays : writeOf tape nodes held initial d (length image) ≡ all-tried
+      (spread : (n ≡ count xs) × (held ≡ numbersBy (valuesOf xs numbers))) where
+    by-arrays : writeOf tape nodes held initial checker size ≡ all-tried
     unfolding triedAll
     by-arrays =
         let short : length (valuesOf xs numbers) < 1024 = omega (arith, asked .2, values-length xs numbers) in
-        write-by tape nodes held initial (length image) d-is
-        ∙ write-allowed tape nodes _ initial checker (asked .0) (asked .1) whole
+        write-allowed tape nodes _ initial checker (asked .0) (asked .1) refl
         ∙ ap (λ (f : ℕ → Option ℤ). tries (readsNoted tape nodes) checker f (start (origin initial)) xs)
         (ap (λ (h : Numbers). numbersIn (h .known) (h .number)) (spread .1) ∙ by-node (valuesOf xs numbers) short)
 
-    answer : a ≡ mapped rangeOf all-tried
-    answer = told .0 ∙ ap (mapped rangeOf) by-arrays
-
-    image-is : image′ ≡ imageOr image all-tried
-    image-is = told .1 ∙ ap (imageOr image) by-arrays
-
-    pub tries-refused : n ≡ length numbers → {m at : ℕ} → a ≡ Fault m at → Fault m at ≡ verdict
-    tries-refused fits {m} {at} is = go all-tried answer ∙ numbers-fit (spread .0) fits
-      where
-        go : (b : AnswerAt Trying) → a ≡ mapped rangeOf b → Fault m at ≡ andThen b (judged from bytes)
-        go (Fine t) e = never (let f = sym is ∙ e in cc)
-        go (Fault k i) e = fault-is (sym is ∙ e)
-
-    module _ {first end : ℕ} (is : a ≡ Fine (first, end)) where
-      -- the tries were fine, and the range is what they wrote
-      written-by : (t : Trying) × (all-tried ≡ Fine t) × ((first, end) ≡ rangeOf t) × (image′ ≡ t .page .image)
-      written-by = go all-tried refl answer image-is
-        where
-          go : (b : AnswerAt Trying) → all-tried ≡ b → a ≡ mapped rangeOf b → image′ ≡ imageOr image b
-              → (t : Trying) × (all-tried ≡ Fine t) × ((first, end) ≡ rangeOf t) × (image′ ≡ t .page .image)
-          go (Fine t) fine e i = (t, fine, ap rangeIn (sym is ∙ e), i)
-          go (Fault k j) fine e i = never (let f = sym is ∙ e in cc)
-
-      pub range-inside : (first ≤ end) × (end ≤ length image′)
-      range-inside =
-          let (t, fine, range, same-image) = written-by in
-          let inside = tries-sound (readsNoted tape nodes) checker (numbered (valuesOf xs numbers)) (origin initial) xs (asked .1) fine in
-          let first-is : first ≡ t .page .pen .start = ap (λ (r : ℕ × ℕ). r .0) range in
-          let end-is : end ≡ t .page .pen .end = ap (λ (r : ℕ × ℕ). r .1) range in
-          (omega (arith, inside .forward, first-is, end-is), omega (arith, inside .end, inside .image, ap length same-image, end-is))
-
-      pub range-judged : n ≡ length numbers
-          → pick (eqb from first && same eqb bytes (covered first end image′)) (Fine tt) (Fault bytesDiffer 0) ≡ verdict
-      unfolding judged isWritten
-      range-judged fits =
-          let (t, fine, range, same-image) = written-by in
-          let written : covered first end image′ ≡ covered (t .page .pen .start) (t .page .pen .end) (t .page .image) =
-          λ j. covered (range j .0) (range j .1) (same-image j) in
-          (λ j. pick (eqb from (range j .0) && same eqb bytes (written j)) (Fine tt) (Fault bytesDiffer 0))
-          ∙ sym (ap (λ (a : AnswerAt Trying). andThen a (judged from bytes)) fine)
-          ∙ numbers-fit (spread .0) fits
+    pub numbers-judged : n ≡ length numbers → verdictOf tape nodes held initial from bytes ≡ verdict
+    unfolding verdictOf
+    numbers-judged fits = ap (λ (a : AnswerAt Trying). andThen a (judged from bytes)) by-arrays ∙ numbers-fit (spread .0) fits
 
 -- ---- form and names before them
 

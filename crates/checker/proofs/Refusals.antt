@@ -29,7 +29,8 @@ use Rattle.reads.specs.Reads.{readsOn}
 use Rattle.reads.proofs.Numbers.{computes}
 use Rattle.number_list.specs.Lists.{count, valuesOf}
 use Rattle.compares.specs.Compared.{checker}
-use Rattle.checker.specs.Check.{isWritten, judged, checkedBy, checked}
+use Rattle.verdict.specs.Verdict.{isWritten, judged}
+use Rattle.checker.specs.Check.{checkedBy, checked}
 use Rattle.checker.specs.Refusals.{refusals}
 use Rattle.checker.specs.Call.{isAllowed, checkOf}
 use Rattle.checker.proofs.Checks.{allowed}

@@ -1,41 +1,26 @@
 -- The check of numbers, a start and bytes against a tape. Document 01: "After form and names the checker refuses a list of the wrong
 -- length (17 at 0), then tries records the same way, with 17, for a constant's number too, in place of 13, then compares start, length
 -- and bytes (18 at 0)." Assumes nothing: these are definitions.
-use Prim.Native.Nat.{ℕ, _-_}
-use mathlib.Core.Bool.{Bool, _&&_}
+use Prim.Native.Nat.{ℕ}
 use mathlib.Core.List.{List}
 use mathlib.Core.Option.{Option}
 use lib.Dec.{eqb}
 use lib.IntN.{ℤ}
-use lib.ListN.{length, take, drop}
+use lib.ListN.{length}
 use Rattle.refusals.specs.Answer.{pick}
-use Rattle.refusals.specs.AnswerAt.{AnswerAt, Fine, Fault, andThen}
-use Rattle.refusals.specs.Table.{numberDiffers, bytesDiffer}
+use Rattle.refusals.specs.AnswerAt.{AnswerAt, Fault, andThen}
+use Rattle.refusals.specs.Table.{numberDiffers}
 use Rattle.form.specs.Statements.{Statement, statements}
 use Rattle.evaluator.specs.Expression.{Value}
 use Rattle.names.specs.Names.{namesOf}
 use Rattle.walk.specs.Walk.{Origin}
-use Rattle.walk.specs.Values.{numbered, same}
+use Rattle.walk.specs.Values.{numbered}
 use Rattle.compares.specs.Compared.{checker}
 use Rattle.tries.specs.Tries as T
-use Rattle.tries.specs.Tries.{Trying, tries}
+use Rattle.tries.specs.Tries.{tries}
 use Rattle.number_list.specs.Lists.{count, valuesOf}
 use Rattle.reads.specs.Reads.{readsOn}
-
--- ---- the check
-
--- the bytes of an image from a start to an end
-abbrev pub covered : (start end : ℕ) → List ℕ → List ℕ
-covered start end image = take (end - start) (drop start image)
-
--- what the tries wrote has this start and these bytes
-unfoldable pub isWritten : (start : ℕ) (bytes : List ℕ) → Trying → Bool
-isWritten start bytes t =
-    let pen = t .page .pen in eqb start (pen .start) && same eqb bytes (covered (pen .start) (pen .end) (t .page .image))
-
--- "then compares start, length and bytes"
-unfoldable pub judged : ℕ → List ℕ → Trying → AnswerAt (Unit {0})
-judged start bytes t = pick (isWritten start bytes t) (Fine tt) (Fault bytesDiffer 0)
+use Rattle.verdict.specs.Verdict.{judged}
 
 -- the list's length, the tries, what they wrote
 unfoldable pub checkedBy : ((ℕ → Option ℤ) → ℤ → ℕ → Value) → List Statement → Origin → List ℤ → (start : ℕ) (bytes : List ℕ)

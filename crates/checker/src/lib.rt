@@ -2,29 +2,24 @@
 // once, with the given numbers, and what is written is compared. There are no passes, and no memory of the caller is written.
 use form::LONGEST;
 use refusals::ARGUMENT;
-use refusals::BYTES_DIFFER;
 use refusals::NUMBER_DIFFERS;
 use refusals::OutcomeAt;
-use tries::Written;
-ghost use mathlib.Core.Bool.{_&&_};
 ghost use mathlib.Core.Path.{_≡_};
 ghost use Prim.Native.Nat.{_≤_, _<_};
-ghost use lib.Dec.{eqb};
 ghost use lib.ListN.{length};
-ghost use Rattle.refusals.specs.Answer.{pick};
-ghost use Rattle.refusals.specs.AnswerAt.{Fine, Fault};
-ghost use Rattle.refusals.specs.Table.{bytesDiffer};
+ghost use Rattle.refusals.specs.AnswerAt.{Fault};
+ghost use Rattle.refusals.specs.Says.{saysAt};
 ghost use Rattle.pen.specs.Pens.{size};
 ghost use Rattle.edges.specs.Edges.{maxNodes};
 ghost use Rattle.form.specs.Form.{maxTape};
 ghost use Rattle.form.specs.Statements.{statements};
 ghost use Rattle.walk.specs.Walk.{origin};
-ghost use Rattle.walk.specs.Values.{declarations, same};
+ghost use Rattle.walk.specs.Values.{declarations};
 ghost use Rattle.walk.specs.Numbers.{readsNoted};
-ghost use Rattle.checker.specs.Check.{covered, checkedBy};
+ghost use Rattle.checker.specs.Check.{checkedBy};
 ghost use Rattle.checker.specs.Call.{isAllowed, checkOf, saysChecked};
 
-// How many bytes an image has; also the greatest place.
+// The greatest place; also how many bytes are checked at most.
 const SIZE: usize = 65536;
 
 // The verdict.
@@ -97,32 +92,15 @@ fn check_numbers<'a>(
         return refused(NUMBER_DIFFERS, 0);
     }
     let by_node = spread.numbers;
-    let mut image = [0u8; SIZE];
-    match tries::write(
-        tape,
-        nodes,
-        by_node,
-        initial,
-        compares::checker(),
-        &mut image,
-    ) {
-        Written::Refused { number, at } => refused(number, at),
-        Written::Range { start: first, end } => judge(&image, first, end, start, bytes),
-    }
+    said(verdict::judge(tape, nodes, by_node, initial, start, bytes))
 }
 
-// Start, length and bytes against what is written: the image from `first` to `end`.
-fn judge<'a>(image: &'a [u8], first: usize, end: usize, start: usize, bytes: &'a [u8]) -> Checked
-    requires { ⌜ (first ≤ end) × (end ≤ length (now image)) ⌝ }
-    ensures { λ r. ⌜ saysChecked r
-        ≡ pick (eqb start first && same eqb (now (bytes .entry)) (covered first end (now (image .entry)))) (Fine tt) (Fault bytesDiffer 0) ⌝ }
+// An outcome, said as an answer of this call.
+fn said(outcome: OutcomeAt) -> Checked
+    ensures { λ r. ⌜ saysChecked r ≡ saysAt outcome ⌝ }
 {
-    if start != first {
-        return refused(BYTES_DIFFER, 0);
-    }
-    if page::is_same(bytes, &image[first..end]) {
-        Checked::Accepted
-    } else {
-        refused(BYTES_DIFFER, 0)
+    match outcome {
+        OutcomeAt::Done => Checked::Accepted,
+        OutcomeAt::Refused { number, at } => Checked::Refused { number, at },
     }
 }

@@ -39,7 +39,8 @@ use Rattle.builder.specs.Call.{Memory, report, left, buildOf}
 use Rattle.builder.proofs.Arguments.{allowed}
 use Rattle.builds.proofs.Kept.{finished-build}
 use Rattle.builds.proofs.Agrees.{tries-either}
-use Rattle.checker.specs.Check.{covered, checkedBy, checked}
+use Rattle.verdict.specs.Verdict.{covered}
+use Rattle.checker.specs.Check.{checkedBy, checked}
 use Rattle.checker.specs.Call.{checkOf}
 use Rattle.checker.proofs.Checks.{Allowed}
 use Rattle.demand.specs.Theorems.{Accepted, Counted}

@@ -22,7 +22,8 @@ use Rattle.tries.specs.Tries.{Trying, start, tries}
 use Rattle.reads.specs.Reads.{readsOn}
 use Rattle.number_list.specs.Lists.{count}
 use Rattle.compares.specs.Compared.{checker}
-use Rattle.checker.specs.Check.{covered, isWritten, judged, checkedBy, checked}
+use Rattle.verdict.specs.Verdict.{covered, isWritten, judged}
+use Rattle.checker.specs.Check.{checkedBy, checked}
 use Rattle.checker.specs.Call.{isAllowed, checkOf}
 use Rattle.checker.proofs.Checks.{Allowed, allowed}
 use Rattle.demand.specs.Demand.{numbers, writeAt, Fits, Demand}

@@ -17,7 +17,7 @@ use Rattle.segment.specs.Segment.{widened, ground}
 use Rattle.pen.proofs.Laws.{Sound}
 use Rattle.walk.specs.Walk.{Origin}
 use Rattle.tries.specs.Tries.{Page, blank, drawn}
-use Rattle.checker.specs.Check.{covered}
+use Rattle.verdict.specs.Verdict.{covered}
 use Rattle.demand.specs.Demand.{Write, until, Covers, ByteAt, Writing, Spans}
 use Rattle.demand.proofs.Painted.{byte-blank, byte-over, byte-kept, byte-same, writing-more, writing-fewer}
 use Rattle.demand.proofs.Painted.{spans-blank, spans-kept, spans-wider, spans-first, spans-same}

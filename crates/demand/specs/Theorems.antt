@@ -17,7 +17,7 @@ use Rattle.walk.specs.Walk.{origin}
 use Rattle.passes.specs.Least.{Least}
 use Rattle.reads.specs.Reads.{readsOn}
 use Rattle.builder.specs.Call.{Memory, buildOf}
-use Rattle.checker.specs.Check.{covered}
+use Rattle.verdict.specs.Verdict.{covered}
 use Rattle.checker.specs.Refusals.{refusals}
 use Rattle.checker.specs.Call.{isAllowed, checkOf}
 use Rattle.demand.specs.Demand.{Demand}

@@ -1,10 +1,10 @@
 -- The start, then the bytes. Assumes nothing.
 use mathlib.Core.Path.{sym, _∙_}
-use Rattle.checker.specs.Check.{covered}
-use Rattle.checker.proofs.Bytes.{as-lists, start-differs, bytes-same, bytes-differ}
+use Rattle.verdict.specs.Verdict.{covered}
+use Rattle.verdict.proofs.Bytes.{as-lists, start-differs, bytes-same, bytes-differ}
 use borrow.Author.Needs.{needs}
-use Rattle.checker.proofs.judge.Statement.{statement}
-use Rattle.checker.proofs.judge.Tie as tie
+use Rattle.verdict.proofs.compare.Statement.{statement}
+use Rattle.verdict.proofs.compare.Tie as tie
 
 refused-requires : tie.Need-refused-requires
 refused-requires c κs = search needs
@@ -49,8 +49,8 @@ returns-3 c =
     ∙ bytes-differ (args .start) (args .first) (args .bytes .now) written (tested .if1 .left)
     (sym (differs .before .is-same .ensures ∙ as-lists (args .bytes .now) written) ∙ differs .if2 .left)
 
-pub judge-spec : {M : Type 1} → statement M
-judge-spec =
+pub compare-spec : {M : Type 1} → statement M
+compare-spec =
     tie.close
     (tie.spec
     refused-requires
