@@ -2,14 +2,16 @@
 use mathlib.Core.List.{List, _∷_, map}
 use mathlib.Core.Option.{Option}
 use mathlib.Core.Path.{_≡_, refl, sym, ap, _∙_, subst}
-use Prim.Native.Nat.{ℕ, _-_, _<_}
+use Prim.Native.Nat.{ℕ, _-_, _≤_, _<_}
 use native.Mathlib.Omega.{arith}
 use lib.IntN.{ℤ, pos}
 use lib.ListN.{length, replicate}
 use Rattle.refusals.specs.AnswerAt.{AnswerAt, Fine, Fault, mapped, andThen}
 use Rattle.refusals.proofs.Never.{never}
 use Rattle.refusals.proofs.Answers.{fine-value, fault-is}
+use Rattle.pen.specs.Pens.{size}
 use Rattle.symbols.specs.Symbols.{numberOr0}
+use Rattle.form.specs.Form.{maxTape}
 use Rattle.form.specs.Statements.{Statement, statements}
 use Rattle.evaluator.specs.Expression.{Value}
 use Rattle.walk.specs.declared.Numbers.{Numbers}
@@ -25,10 +27,14 @@ use Rattle.tries.specs.Tries.{Trying, start, tries}
 use Rattle.tries.specs.Write.{triedAll, rangeOf, saysWritten, imageOr}
 use Rattle.number_list.proofs.Kept.{list-zeros}
 use Rattle.compares.specs.Compared.{builder}
-use Rattle.builds.specs.Build.{Build, triedWith, builtBy}
-use Rattle.builds.proofs.Builds.{built-refused}
+use Rattle.reads.specs.Reads.{readsOn}
+use Rattle.reads.proofs.Names.{few-names}
+use Rattle.layout.specs.Layout.{layoutOf, notedOf}
+use Rattle.layout.proofs.Layouts.{laid-by, laid-stops}
+use Rattle.builds.specs.Build.{Build, triedWith, builtBy, built}
+use Rattle.builds.proofs.Names.{built-noted}
 use Rattle.builder.specs.Call.{Report, Memory, memory, left}
-use Rattle.builder.specs.Steps.{leaving, builtOn, finishedIn, triedOn}
+use Rattle.builder.specs.Steps.{leaving, finishedIn, triedOn}
 
 abbrev Reads : Type 0
 Reads = (ℕ → Option ℤ) → ℤ → ℕ → Value
@@ -59,23 +65,25 @@ module _ (r : Reads) (xs : List Statement) (o : Origin) (few : declarations xs <
         passes = n;
       }
 
--- the build is then the tries with these numbers
-pub built-after : (tape nodes : List ℕ) (initial : ℕ) → declarations (statements tape) < 1024 → {n : ℕ} {numbers : Numbers}
-    → (L : Values) × (settled (readsNoted tape nodes) (statements tape) (origin initial) ≡ Fine (n, L)) × (numbers ≡ numbersBy L)
-    → triedOn tape nodes initial n numbers ≡ builtOn tape nodes initial
-unfolding triedOn triedAll builtOn builtBy
-built-after tape nodes initial few {n} (L, e, is) =
-    let r = readsNoted tape nodes in
-    let xs = statements tape in
-    let o = origin initial in
-    ap (triedOn tape nodes initial n) is
-    ∙ tried-arrays r xs o few n L e
-    ∙ sym (ap (λ (a : AnswerAt (ℕ × Values)). andThen a (triedWith r xs o)) e)
+module _ (tape nodes : List ℕ) (initial : ℕ) (low : initial ≤ size) (long : length nodes ≡ maxTape) where
+  -- behind a layout that settled, the build is the tries with its numbers
+  pub laid-tried : {n : ℕ} {numbers : Numbers} {L : Values} → layoutOf tape initial (length nodes) ≡ Fine (n, L) → numbers ≡ numbersBy L
+      → {nodes′ : List ℕ} → nodes′ ≡ notedOf tape initial nodes → triedOn tape nodes′ initial n numbers ≡ built tape (origin initial)
+  unfolding triedOn triedAll builtBy
+  laid-tried {n} {L = L} laid is {nodes′} noted =
+      let (t, fine, notes, e) = laid-by tape initial low nodes laid noted in
+      let r = readsNoted tape nodes′ in
+      let xs = statements tape in
+      let o = origin initial in
+      ap (triedOn tape nodes′ initial n) is
+      ∙ tried-arrays r xs o (few-names tape fine) n L e
+      ∙ sym (ap (λ (a : AnswerAt (ℕ × Values)). andThen a (triedWith r xs o)) e)
+      ∙ built-noted tape o fine nodes long notes
 
-pub built-stopped : (tape nodes : List ℕ) (initial : ℕ) {m at : ℕ}
-    → settled (readsNoted tape nodes) (statements tape) (origin initial) ≡ Fault m at → builtOn tape nodes initial ≡ Fault m at
-unfolding builtOn
-built-stopped tape nodes initial e = built-refused (readsNoted tape nodes) (statements tape) (origin initial) e
+  -- behind one that is refused, the build is refused
+  pub laid-refused : {m at : ℕ} → layoutOf tape initial (length nodes) ≡ Fault m at → built tape (origin initial) ≡ Fault m at
+  unfolding built builtBy
+  laid-refused e = laid-stops tape initial low nodes (λ t. triedWith (readsOn tape t) (statements tape) (origin initial)) long e
 
 -- ---- what the tries answer
 

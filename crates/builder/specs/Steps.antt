@@ -7,13 +7,12 @@ use Rattle.refusals.specs.AnswerAt.{AnswerAt, Fine, Fault, mapped}
 use Rattle.edges.specs.Edges.{maxNodes}
 use Rattle.form.specs.Statements.{Statement, statements}
 use Rattle.walk.specs.declared.Numbers.{Numbers}
-use Rattle.walk.specs.Walk.{origin}
-use Rattle.walk.specs.Numbers.{filled, readsNoted}
+use Rattle.walk.specs.Numbers.{filled}
 use Rattle.tries.specs.Tries.{Trying}
 use Rattle.tries.specs.Write.{triedAll}
 use Rattle.number_list.specs.Lists.{numberList}
 use Rattle.compares.specs.Compared.{builder}
-use Rattle.builds.specs.Build.{Build, builtBy}
+use Rattle.builds.specs.Build.{Build}
 use Rattle.builder.specs.Call.{Report, report}
 
 -- what is answered, and what is left of an image and of a number list that was zero
@@ -21,11 +20,7 @@ abbrev pub leaving : List ℕ → List ℤ → AnswerAt Build → AnswerAt Repor
 leaving image list (Fine b) = (Fine (report b), b .image, filled maxNodes (pos 0) (b .numbers))
 leaving image list (Fault n at) = (Fault n at, image, list)
 
--- the build of a tape whose names have been noted
-unfoldable pub builtOn : (tape nodes : List ℕ) (initial : ℕ) → AnswerAt Build
-builtOn tape nodes initial = builtBy (readsNoted tape nodes) (statements tape) (origin initial)
-
--- behind its passes, with settled numbers that stand in arrays, by node
+-- behind a layout whose numbers stand in arrays, by node
 abbrev pub finishedIn : List Statement → ℕ → Numbers → Trying → Build
 finishedIn xs n numbers t = record {
   start = t .page .pen .start;

@@ -1,9 +1,8 @@
-// The builder: from a tape to an image. Form and names, passes until the numbers repeat, and each statement tried; the lent image is
+// The builder: from a tape to an image. The tape is laid out, and each statement tried with the numbers of its layout; the lent image is
 // written where nothing is refused, and the work memory is zero again at the end.
 use form::LONGEST;
 use passes::Passes;
 use refusals::ARGUMENT;
-use refusals::OutcomeAt;
 use symbols::NODES;
 use tries::Written;
 use walk::Numbers;
@@ -20,7 +19,7 @@ ghost use Rattle.walk.specs.Walk.{origin};
 ghost use Rattle.walk.specs.Values.{declarations};
 ghost use Rattle.builds.specs.Build.{built};
 ghost use Rattle.builder.specs.Call.{workPlaces, isAllowed, memory, buildOf, saysBuilt};
-ghost use Rattle.builder.specs.Steps.{leaving, builtOn, triedOn};
+ghost use Rattle.builder.specs.Steps.{leaving, triedOn};
 
 // How many bytes an image has; also the greatest place.
 pub const SIZE: usize = 65536;
@@ -58,7 +57,7 @@ pub fn build(
         return refused(ARGUMENT, 0);
     }
     number_list::clear(numbers);
-    let built = build_names(tape, initial, image, numbers, work);
+    let built = build_laid(tape, initial, image, numbers, work);
     zero_work(work);
     built
 }
@@ -100,8 +99,8 @@ fn zero_work(work: &mut [u16])
     }
 }
 
-// The build behind its arguments: form and names.
-fn build_names(
+// The build behind its arguments: the layout.
+fn build_laid(
     tape: &[u8],
     initial: usize,
     image: &mut [u8],
@@ -114,28 +113,7 @@ fn build_names(
         ≡ leaving (now (image .entry)) (now (list .entry)) (built (now (tape .entry)) (origin initial)))
         × (length (now (nodes .exit)) ≡ length (now (nodes .entry))) ⌝ }
 {
-    let declared = names::declare(tape, nodes);
-    let answer = declared.answer;
-    match answer {
-        OutcomeAt::Refused { number, at } => refused(number, at),
-        OutcomeAt::Done => build_settled(tape, nodes, initial, image, list),
-    }
-}
-
-// The names being resolved: the passes.
-fn build_settled<'a>(
-    tape: &'a [u8],
-    nodes: &'a [u16],
-    initial: usize,
-    image: &mut [u8],
-    list: &mut [i64],
-) -> Built
-    requires { ⌜ (length (now tape) ≤ maxTape) × (initial ≤ size) × (length (now image) ≡ size) × (now list ≡ replicate maxNodes (pos 0))
-        × (declarations (statements (now tape)) < maxNodes) ⌝ }
-    ensures { λ r. ⌜ (saysBuilt r, now (image .exit), now (list .exit))
-        ≡ leaving (now (image .entry)) (now (list .entry)) (builtOn (now (tape .entry)) (now (nodes .entry)) initial) ⌝ }
-{
-    let settled = passes::settle(tape, nodes, initial);
+    let settled = layout::lay_out(tape, initial, nodes);
     let answer = settled.answer;
     match answer {
         Passes::Refused { number, at } => refused(number, at),

@@ -1,5 +1,4 @@
--- What settling answers; a build by its notes; what a finished build has, and with which numbers one is refused.
-pub mod Settling
+-- A build by its notes; what a finished build has, and with which numbers one is refused.
 pub mod Builds
 pub mod Names
 pub mod Kept

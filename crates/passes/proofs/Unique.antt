@@ -11,6 +11,7 @@ use Rattle.passes.specs.declared.Passes.the-variants as after
 use Rattle.passes.specs.declared.Settled.{Settled}
 use Rattle.passes.proofs.settle.Reads as settle
 use Rattle.passes.proofs.pass_once.Reads as pass-once
+use Rattle.passes.proofs.unsettled.Reads as unsettled
 
 -- ---- of each answer, the case that says this
 
@@ -22,10 +23,10 @@ back-passes : (x : Passes) → backPasses (saysPasses x) ≡ x
 back-passes (after.After n) = refl
 back-passes (after.Refused n at) = refl
 
-abbrev backSettled : AnswerAt ℕ × Numbers → Settled
+abbrev pub backSettled : AnswerAt ℕ × Numbers → Settled
 backSettled s = record { answer = backPasses (s .0); numbers = s .1 }
 
-back-settled : (x : Settled) → backSettled (saysSettled x) ≡ x
+pub back-settled : (x : Settled) → backSettled (saysSettled x) ≡ x
 back-settled x i = record { answer = back-passes (x .answer) i; numbers = x .numbers }
 
 -- ---- the calls
@@ -35,3 +36,6 @@ settle-one k a x y e f p q = told-apart saysSettled backSettled back-settled p q
 
 pub pass-once-one : OneResult pass-once.Post
 pass-once-one k a x y e f p q = told-apart saysSettled backSettled back-settled p q
+
+pub unsettled-one : OneResult unsettled.Post
+unsettled-one k a x y e f p q = told-apart saysSettled backSettled back-settled p q

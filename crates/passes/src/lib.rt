@@ -57,7 +57,7 @@ pub fn settle<'a>(tape: &'a [u8], nodes: &'a [u16], initial: usize) -> Settled
     ensures { λ r. ⌜ saysSettled r ≡ left (settleOf (now (tape .entry)) (now (nodes .entry)) initial) ⌝ }
 {
     if !is_allowed(tape, initial) {
-        return unsettled(ARGUMENT);
+        return unsettled(ARGUMENT, 0);
     }
     repeat(tape, nodes, initial)
 }
@@ -67,7 +67,7 @@ pub fn pass_once<'a>(tape: &'a [u8], nodes: &'a [u16], numbers: Numbers, initial
     ensures { λ r. ⌜ saysSettled r ≡ left (passOnce (now (tape .entry)) (now (nodes .entry)) numbers initial) ⌝ }
 {
     if !is_allowed(tape, initial) {
-        return unsettled(ARGUMENT);
+        return unsettled(ARGUMENT, 0);
     }
     Settled {
         answer: Passes::After(1),
@@ -76,11 +76,11 @@ pub fn pass_once<'a>(tape: &'a [u8], nodes: &'a [u16], numbers: Numbers, initial
 }
 
 // No number, for this reason.
-fn unsettled(number: u8) -> Settled
-    ensures { λ r. ⌜ saysSettled r ≡ left (Fault number 0) ⌝ }
+pub fn unsettled(number: u8, at: usize) -> Settled
+    ensures { λ r. ⌜ saysSettled r ≡ left (Fault number at) ⌝ }
 {
     Settled {
-        answer: Passes::Refused { number, at: 0 },
+        answer: Passes::Refused { number, at },
         numbers: no_numbers(),
     }
 }
@@ -144,7 +144,7 @@ fn repeat<'a>(tape: &'a [u8], nodes: &'a [u16], initial: usize) -> Settled
         numbers = next;
         n += 1;
     }
-    unsettled(NOT_SETTLED)
+    unsettled(NOT_SETTLED, 0)
 }
 
 // Whether two pairs of arrays say the same.

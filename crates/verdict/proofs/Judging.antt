@@ -1,5 +1,5 @@
 -- What the tries answer, judged. Assumes nothing.
-use mathlib.Core.Bool.{Bool, true, false, _&&_, and-eq-true-iff}
+use mathlib.Core.Bool.{_&&_, and-eq-true-iff}
 use mathlib.Core.List.{List}
 use mathlib.Core.Path.{_≡_, refl, sym, ap, _∙_}
 use Prim.Native.Nat.{ℕ, _≤_}
@@ -11,7 +11,7 @@ use Rattle.refusals.specs.Answer.{pick}
 use Rattle.refusals.specs.AnswerAt.{AnswerAt, Fine, Fault, mapped, andThen}
 use Rattle.refusals.specs.Table.{argument, bytesDiffer}
 use Rattle.refusals.proofs.Never.{never}
-use Rattle.refusals.proofs.Answers.{fault-is}
+use Rattle.refusals.proofs.Answers.{fine-passed, fault-is}
 use Rattle.pen.specs.Pens.{size}
 use Rattle.form.specs.Form.{maxTape}
 use Rattle.form.specs.Statements.{statements}
@@ -50,16 +50,11 @@ module _ (tape nodes : List ℕ) (numbers : Numbers) (initial from : ℕ) (bytes
   -- tries that were fine had an initial place in its range, and these are the tries of all statements
   tried-allowed : {t : Trying} → all-tried ≡ Fine t → (initial ≤ size) × (triedAll tape nodes numbers initial checker ≡ Fine t)
   unfolding writeOf isAllowed
-  tried-allowed {t} e = go (isAllowed tape initial size) refl e
-    where
-      go : (b : Bool) → isAllowed tape initial size ≡ b
-          → pick b (triedAll tape nodes numbers initial checker) (Fault argument 0) ≡ Fine t
-          → (initial ≤ size) × (triedAll tape nodes numbers initial checker ≡ Fine t)
-      go true is e =
-          let a = and-eq-true-iff (leb (length tape) maxTape && leb initial size) (eqb size size) .0 is in
-          let b = and-eq-true-iff (leb (length tape) maxTape) (leb initial size) .0 (a .0) in
-          (leb-true initial size (b .1), e)
-      go false is e = never (cc)
+  tried-allowed {t} e =
+      let passed = fine-passed (isAllowed tape initial size) (triedAll tape nodes numbers initial checker) argument 0 e in
+      let a = and-eq-true-iff (leb (length tape) maxTape && leb initial size) (eqb size size) .0 (passed .0) in
+      let b = and-eq-true-iff (leb (length tape) maxTape) (leb initial size) .0 (a .0) in
+      (leb-true initial size (b .1), passed .1)
 
   -- a and image′: what the tries give
   module _ (image : List ℕ) (whole : length image ≡ size) {d : Compares} (d-is : d ≡ checker) {a : AnswerAt (ℕ × ℕ)} {image′ : List ℕ}

@@ -30,8 +30,8 @@ returns c =
 clear-requires : tie.Need-clear-requires
 clear-requires c κs = search needs
 
-build-names-requires : tie.Need-build-names-requires
-build-names-requires c κs =
+build-laid-requires : tie.Need-build-laid-requires
+build-laid-requires c κs =
     let numbers = c .before .before .before in
     let zeroed = numbers .before in
     let tested = zeroed .before .before in
@@ -60,7 +60,7 @@ returns-2 c =
     let args = tested .before .before .before .before .before .args in
     let is = granted (tested .before .is-allowed .ensures) (tested .if1 .left) in
     let fine = allowed _ _ _ _ _ is in
-    let told = built .build-names .ensures in
+    let told = built .build-laid .ensures in
     let m = memory (args .image .now) (args .numbers .now) (args .work .now) in
     let zero = zeroed .clear .ensures ∙ ap (λ (n : ℕ). replicate n (pos 0)) (fine .list) in
     let work = worked .zero-work .ensures ∙ ap (λ (n : ℕ). replicate n 0) (told .1 ∙ fine .work) in
@@ -75,7 +75,7 @@ build-spec =
     refused-requires
     returns
     clear-requires
-    build-names-requires
+    build-laid-requires
     zero-work-requires
     same-length
     same-length-2

@@ -1,0 +1,2 @@
+-- What a layout is. The contracts of this crate, and of those above it, cite it.
+pub mod Layout
