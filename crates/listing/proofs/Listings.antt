@@ -32,8 +32,10 @@ use Rattle.tries.specs.Tries.{Trying, start, tryAt, tries}
 use Rattle.tries.specs.Write.{triedAll}
 use Rattle.tries.proofs.Agrees.{tries-alike, write-allowed}
 use Rattle.reads.specs.Reads.{readsOn}
-use Rattle.reads.proofs.Names.{declare-is}
+use Rattle.reads.proofs.Names.{declare-is, few-names}
 use Rattle.reads.proofs.Reading.{all-alike}
+use Rattle.layout.specs.Layout.{layoutOf, notedOf}
+use Rattle.layout.proofs.Layouts.{laid-by, laid-stops}
 use Rattle.builds.specs.Build.{finished}
 use Rattle.record_lines.specs.Records.{lineOf, lines, recorded}
 use Rattle.listing.specs.Listing.{listedWith, listedBy, listed}
@@ -99,13 +101,9 @@ module _ (r : Reads) (xs : List Statement) (o : Origin) where
       ∙ listed-arrays few n L e
       ∙ sym (ap (λ (a : AnswerAt (ℕ × Values)). andThen a (listedWith r xs o)) e)
 
-  pub listed-refused : {m at : ℕ} → settled r xs o ≡ Fault m at → Fault m at ≡ listedBy r xs o
-  unfolding listedBy
-  listed-refused e = sym (ap (λ (a : AnswerAt (ℕ × Values)). andThen a (listedWith r xs o)) e)
-
 -- the listing behind the passes is that with their numbers
 module _ (tape nodes : List ℕ) (initial : ℕ) (fits : length tape ≤ maxTape) (low : initial ≤ size) where
-  pub listed-after : declarations (statements tape) < 1024 → {n : ℕ} {numbers : Numbers}
+  listed-after : declarations (statements tape) < 1024 → {n : ℕ} {numbers : Numbers}
       → (L : Values) × (settled (readsNoted tape nodes) (statements tape) (origin initial) ≡ Fine (n, L)) × (numbers ≡ numbersBy L)
       → recorded tape nodes numbers n initial ≡ listedBy (readsNoted tape nodes) (statements tape) (origin initial)
   unfolding recorded triedAll listedIn
@@ -116,12 +114,8 @@ module _ (tape nodes : List ℕ) (initial : ℕ) (fits : length tape ≤ maxTape
 -- ---- behind the names
 
 module _ (tape : List ℕ) (o : Origin) where
-  pub listed-fault : {m at : ℕ} → namesOf tape ≡ Fault m at → Fault m at ≡ listed tape o
-  unfolding listed
-  listed-fault e = sym (ap (λ (a : AnswerAt SymbolTable). andThen a (λ t. listedBy (readsOn tape t) (statements tape) o)) e)
-
   -- by what is noted at the name records
-  pub listed-noted : {t : SymbolTable} → namesOf tape ≡ Fine t → (nodes : List ℕ) → length nodes ≡ maxTape → {nodes′ : List ℕ}
+  listed-noted : {t : SymbolTable} → namesOf tape ≡ Fine t → (nodes : List ℕ) → length nodes ≡ maxTape → {nodes′ : List ℕ}
       → nodes′ ≡ notesAfter tape nodes (declareOf tape (length nodes))
       → listedBy (readsNoted tape nodes′) (statements tape) o ≡ listed tape o
   unfolding listed
@@ -130,3 +124,21 @@ module _ (tape : List ℕ) (o : Origin) where
       ap (λ (l : List ℕ). listedBy (readsNoted tape l) (statements tape) o) is
       ∙ listed-alike _ (readsOn tape t) (statements tape) o (all-alike tape fine _ resolved)
       ∙ sym (ap (λ (a : AnswerAt SymbolTable). andThen a (λ t. listedBy (readsOn tape t) (statements tape) o)) fine)
+
+-- ---- behind the layout
+
+module _ (tape nodes : List ℕ) (initial : ℕ) (low : initial ≤ size) (long : length nodes ≡ maxTape) where
+  -- one that settled: its numbers give the lines
+  pub laid-listed : length tape ≤ maxTape → {n : ℕ} {numbers : Numbers}
+      → (L : Values) × (layoutOf tape initial (length nodes) ≡ Fine (n, L)) × (numbers ≡ numbersBy L)
+      → {nodes′ : List ℕ} → nodes′ ≡ notedOf tape initial nodes → recorded tape nodes′ numbers n initial ≡ listed tape (origin initial)
+  laid-listed fits (L, laid, is) {nodes′} noted =
+      let (t, fine, notes, e) = laid-by tape initial low nodes laid noted in
+      listed-after tape nodes′ initial fits low (few-names tape fine) (L, e, is)
+      ∙ listed-noted tape (origin initial) fine nodes long notes
+
+  -- one that is refused
+  pub laid-refused : {m at : ℕ} → layoutOf tape initial (length nodes) ≡ Fault m at → Fault m at ≡ listed tape (origin initial)
+  unfolding listed listedBy
+  laid-refused e =
+      sym (laid-stops tape initial low nodes (λ t. listedWith (readsOn tape t) (statements tape) (origin initial)) long e)

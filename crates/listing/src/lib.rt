@@ -3,20 +3,15 @@
 use form::LONGEST;
 use passes::Passes;
 use refusals::ARGUMENT;
-use refusals::OutcomeAt;
 ghost use mathlib.Core.Path.{_≡_};
-ghost use Prim.Native.Nat.{_≤_, _<_};
+ghost use Prim.Native.Nat.{_≤_};
 ghost use lib.ListN.{length};
 ghost use Rattle.pen.specs.Pens.{size};
-ghost use Rattle.edges.specs.Edges.{maxNodes};
 ghost use Rattle.page.specs.Page.{laid};
 ghost use Rattle.form.specs.Form.{maxTape};
-ghost use Rattle.form.specs.Statements.{statements};
 ghost use Rattle.walk.specs.Walk.{origin};
-ghost use Rattle.walk.specs.Values.{declarations};
-ghost use Rattle.walk.specs.Numbers.{readsNoted};
 ghost use Rattle.record_lines.specs.Records.{said};
-ghost use Rattle.listing.specs.Listing.{listedBy, listed};
+ghost use Rattle.listing.specs.Listing.{listed};
 ghost use Rattle.listing.specs.Call.{listing, listOf, saysListed};
 
 // How long the text is that is lent: twenty bytes for each byte of a tape, and twenty for the last line.
@@ -52,29 +47,15 @@ fn fill(tape: &[u8], initial: usize, text: &mut [u8]) -> usize
         return lines::put_refused(text, 0, ARGUMENT, 0);
     }
     let mut nodes = [0u16; SIZE];
-    fill_names(tape, initial, text, &mut nodes)
+    fill_laid(tape, initial, text, &mut nodes)
 }
 
-// Form and names; the nodes that names resolve to are noted.
-fn fill_names(tape: &[u8], initial: usize, text: &mut [u8], nodes: &mut [u16]) -> usize
+// The layout, then the lines with its numbers.
+fn fill_laid(tape: &[u8], initial: usize, text: &mut [u8], nodes: &mut [u16]) -> usize
     requires { ⌜ (length (now tape) ≤ maxTape) × (initial ≤ size) × (length (now nodes) ≡ maxTape) ⌝ }
     ensures { λ r. ⌜ (r, now (text .exit)) ≡ laid (now (text .entry)) 0 (said (listed (now (tape .entry)) (origin initial))) ⌝ }
 {
-    let declared = names::declare(tape, nodes);
-    let answer = declared.answer;
-    match answer {
-        OutcomeAt::Refused { number, at } => lines::put_refused(text, 0, number, at),
-        OutcomeAt::Done => fill_settled(tape, nodes, initial, text),
-    }
-}
-
-// The names being resolved: the passes, then the lines.
-fn fill_settled<'a>(tape: &'a [u8], nodes: &'a [u16], initial: usize, text: &mut [u8]) -> usize
-    requires { ⌜ (length (now tape) ≤ maxTape) × (initial ≤ size) × (declarations (statements (now tape)) < maxNodes) ⌝ }
-    ensures { λ r. ⌜ (r, now (text .exit)) ≡ laid (now (text .entry)) 0
-        (said (listedBy (readsNoted (now (tape .entry)) (now (nodes .entry))) (statements (now (tape .entry))) (origin initial))) ⌝ }
-{
-    let settled = passes::settle(tape, nodes, initial);
+    let settled = layout::lay_out(tape, initial, nodes);
     let answer = settled.answer;
     match answer {
         Passes::Refused { number, at } => lines::put_refused(text, 0, number, at),

@@ -37,11 +37,11 @@ returns-2 c =
     laid-same (now (args .text)) 0 _ (too-high (now (args .tape)) (args .initial) (tested .before .if1 .left) (tested .if2 .taken))
     (put .put-refused2 .ensures)
 
-slice-aggregate-fill-names : tie.Need-slice-aggregate-fill-names
-slice-aggregate-fill-names c = sym (length-replicate {A = ℕ} maxTape 0)
+slice-aggregate-fill-laid : tie.Need-slice-aggregate-fill-laid
+slice-aggregate-fill-laid c = sym (length-replicate {A = ℕ} maxTape 0)
 
-fill-names-requires : tie.Need-fill-names-requires
-fill-names-requires c κs =
+fill-laid-requires : tie.Need-fill-laid-requires
+fill-laid-requires c κs =
     let tested = c .before .before in
     (tested .before .if1 .left, tested .if2 .left, length-replicate {A = ℕ} maxTape 0)
 
@@ -54,7 +54,7 @@ returns-3 c =
     let tested = filled .before .before .before in
     let args = tested .before .before .before .before .args in
     laid-same (now (args .text)) 0 _ (allowed (now (args .tape)) (args .initial) (tested .before .if1 .left) (tested .if2 .left))
-    (filled .fill-names .ensures)
+    (filled .fill-laid .ensures)
 
 pub fill-spec : {M : Type 1} → statement M
 fill-spec =
@@ -66,7 +66,7 @@ fill-spec =
     put-refused-requires-2
     same-length-2
     returns-2
-    slice-aggregate-fill-names
-    fill-names-requires
+    slice-aggregate-fill-laid
+    fill-laid-requires
     same-length-3
     returns-3)
