@@ -2,16 +2,10 @@
 use Prim.Native.Nat.{ℕ}
 use mathlib.Core.List.{List}
 use lib.IntN.{ℤ, pos}
-use lib.ListN.{drop}
-use Rattle.refusals.specs.AnswerAt.{AnswerAt, Fine, Fault, mapped}
+use Rattle.refusals.specs.AnswerAt.{AnswerAt, Fine, Fault}
 use Rattle.edges.specs.Edges.{maxNodes}
-use Rattle.form.specs.Statements.{Statement, statements}
-use Rattle.walk.specs.declared.Numbers.{Numbers}
 use Rattle.walk.specs.Numbers.{filled}
-use Rattle.tries.specs.Tries.{Trying}
-use Rattle.tries.specs.Write.{triedAll}
-use Rattle.number_list.specs.Lists.{numberList}
-use Rattle.compares.specs.Compared.{builder}
+use Rattle.finish.specs.Finish.{Ends}
 use Rattle.builds.specs.Build.{Build}
 use Rattle.builder.specs.Call.{Report, report}
 
@@ -20,16 +14,6 @@ abbrev pub leaving : List ℕ → List ℤ → AnswerAt Build → AnswerAt Repor
 leaving image list (Fine b) = (Fine (report b), b .image, filled maxNodes (pos 0) (b .numbers))
 leaving image list (Fault n at) = (Fault n at, image, list)
 
--- behind a layout whose numbers stand in arrays, by node
-abbrev pub finishedIn : List Statement → ℕ → Numbers → Trying → Build
-finishedIn xs n numbers t = record {
-  start = t .page .pen .start;
-  end = t .page .pen .end;
-  image = t .page .image;
-  numbers = numberList xs (drop 1 (numbers .number));
-  passes = n;
-}
-
-unfoldable pub triedOn : (tape nodes : List ℕ) (initial passes : ℕ) (numbers : Numbers) → AnswerAt Build
-triedOn tape nodes initial passes numbers =
-    mapped (finishedIn (statements tape) passes numbers) (triedAll tape nodes numbers initial builder)
+-- the end of a build, and how many passes there were
+abbrev pub withPasses : ℕ → Ends → Report
+withPasses passes e = (e .0, e .1, e .2, passes)

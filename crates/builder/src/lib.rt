@@ -1,25 +1,23 @@
 // The builder: from a tape to an image. The tape is laid out, and each statement tried with the numbers of its layout; the lent image is
 // written where nothing is refused, and the work memory is zero again at the end.
+use finish::Ended;
 use form::LONGEST;
 use passes::Passes;
 use refusals::ARGUMENT;
 use symbols::NODES;
-use tries::Written;
-use walk::Numbers;
 ghost use mathlib.Core.Path.{_≡_};
-ghost use Prim.Native.Nat.{_≤_, _<_};
+ghost use Prim.Native.Nat.{_≤_};
 ghost use lib.IntN.{pos};
 ghost use lib.ListN.{length, replicate};
-ghost use Rattle.refusals.specs.AnswerAt.{Fault};
+ghost use Rattle.refusals.specs.AnswerAt.{Fault, mapped};
 ghost use Rattle.pen.specs.Pens.{size};
 ghost use Rattle.edges.specs.Edges.{maxNodes};
 ghost use Rattle.form.specs.Form.{maxTape};
-ghost use Rattle.form.specs.Statements.{statements};
 ghost use Rattle.walk.specs.Walk.{origin};
-ghost use Rattle.walk.specs.Values.{declarations};
+ghost use Rattle.finish.specs.Finish.{saysEnded};
 ghost use Rattle.builds.specs.Build.{built};
 ghost use Rattle.builder.specs.Call.{workPlaces, isAllowed, memory, buildOf, saysBuilt};
-ghost use Rattle.builder.specs.Steps.{leaving, triedOn};
+ghost use Rattle.builder.specs.Steps.{leaving, withPasses};
 
 // How many bytes an image has; also the greatest place.
 pub const SIZE: usize = 65536;
@@ -119,36 +117,29 @@ fn build_laid(
         Passes::Refused { number, at } => refused(number, at),
         Passes::After(n) => {
             let numbers = settled.numbers;
-            build_tried(tape, nodes, numbers, n, initial, image, list)
+            said(
+                finish::finish(tape, nodes, numbers, initial, image, list),
+                n,
+            )
         }
     }
 }
 
-// The numbers being settled: the tries, and the number list.
-fn build_tried<'a>(
-    tape: &'a [u8],
-    nodes: &'a [u16],
-    numbers: Numbers,
-    passes: usize,
-    initial: usize,
-    image: &mut [u8],
-    list: &mut [i64],
-) -> Built
-    requires { ⌜ (length (now tape) ≤ maxTape) × (initial ≤ size) × (length (now image) ≡ size) × (now list ≡ replicate maxNodes (pos 0))
-        × (declarations (statements (now tape)) < maxNodes) ⌝ }
-    ensures { λ r. ⌜ (saysBuilt r, now (image .exit), now (list .exit))
-        ≡ leaving (now (image .entry)) (now (list .entry)) (triedOn (now (tape .entry)) (now (nodes .entry)) initial passes numbers) ⌝ }
+// The end of a build after so many passes, said as an answer of this call.
+fn said(ended: Ended, passes: usize) -> Built
+    ensures { λ r. ⌜ saysBuilt r ≡ mapped (withPasses passes) (saysEnded ended) ⌝ }
 {
-    match tries::write(tape, nodes, numbers, initial, compares::builder(), image) {
-        Written::Refused { number, at } => refused(number, at),
-        Written::Range { start, end } => {
-            let count = number_list::gather(tape, &numbers.number, list);
-            Built::Finished {
-                start,
-                end,
-                numbers: count,
-                passes,
-            }
-        }
+    match ended {
+        Ended::Refused { number, at } => Built::Refused { number, at },
+        Ended::Range {
+            start,
+            end,
+            numbers,
+        } => Built::Finished {
+            start,
+            end,
+            numbers,
+            passes,
+        },
     }
 }

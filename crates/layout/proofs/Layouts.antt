@@ -95,12 +95,11 @@ module _ (tape : List ℕ) (initial : ℕ) (low : initial ≤ size) (nodes : Lis
       × (settled (readsNoted tape nodes′) (statements tape) (origin initial) ≡ Fine (n, L))
   laid-by {n} {L} e is =
       let (t, fine, passes) = fine-then names (λ t. settled (readsOn tape t) (statements tape) (origin initial)) (n, L) (laid-out ∙ e) in
-      let notes = is ∙ sym noted in
-      (
+      let notes = is ∙ sym noted in (
         t,
         named fine .1,
         notes,
-        ap (λ (l : List ℕ). settled (readsNoted tape l) (statements tape) (origin initial)) notes ∙ settled-noted fine ∙ e
+        ap (λ (l : List ℕ). settled (readsNoted tape l) (statements tape) (origin initial)) notes ∙ settled-noted fine ∙ e,
       )
 
   -- where it is refused, so is all that goes on behind it

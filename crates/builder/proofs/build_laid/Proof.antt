@@ -1,12 +1,10 @@
 -- The layout settles, or is refused; then the tries. Assumes nothing.
 use lib.ListN.{length}
 use Rattle.walk.specs.Walk.{origin}
-use Rattle.reads.proofs.Names.{few-names}
 use Rattle.layout.specs.Layout.{layoutOf}
 use Rattle.layout.proofs.Settling.{settled-refused, settled-after}
-use Rattle.layout.proofs.Layouts.{laid-by}
 use Rattle.builds.specs.Build.{built}
-use Rattle.builder.proofs.Builds.{laid-refused, laid-tried, left-refused, left-same}
+use Rattle.builder.proofs.Builds.{left-laid, laid-refused, left-refused}
 use borrow.Author.Needs.{needs}
 use Rattle.builder.proofs.build_laid.Statement.{statement}
 use Rattle.builder.proofs.build_laid.Tie as tie
@@ -23,17 +21,11 @@ refused-requires c κs = search needs
 enum-known-answer-2 : tie.Need-enum-known-answer-2
 enum-known-answer-2 c = search needs
 
-build-tried-requires : tie.Need-build-tried-requires
-build-tried-requires c κs =
-    let told = c .before .before .before .before .before in
-    let laid = told .before .before .before .before in
-    let given = laid .before .before .before .before .before in
-    let args = given .args in
-    let tape = args .tape .now in
-    let nodes = args .nodes .now in
-    let found = settled-after (told .answer2 .given .1) (layoutOf tape (args .initial) (length nodes)) (laid .lay-out .ensures .0) in
-    let names = laid-by tape (args .initial) (given .pre .1) nodes (found .1) (laid .lay-out .ensures .1) in
-    (given .pre .0, given .pre .1, given .pre .2, given .pre .3, few-names tape (names .1))
+finish-requires : tie.Need-finish-requires
+finish-requires c κs = search needs
+
+said-requires : tie.Need-said-requires
+said-requires c κs = search needs
 
 same-length : tie.Need-same-length
 same-length c = search needs
@@ -48,10 +40,9 @@ returns c =
     let tape = args .tape .now in
     let nodes = args .nodes .now in
     let refuses = settled-refused (told .answer .given .1) (layoutOf tape (args .initial) (length nodes)) (laid .lay-out .ensures .0) in
-    let stopped = laid-refused tape nodes (args .initial) (given .pre .1) (given .pre .4) refuses in
-    (
+    let stopped = laid-refused tape nodes (args .initial) (given .pre .1) (given .pre .4) refuses in (
       left-refused (args .image .now) (args .list .now) (built tape (origin (args .initial))) stopped (c .refused .ensures),
-      kept .nodes .given
+      kept .nodes .given,
     )
 
 same-length-2 : tie.Need-same-length-2
@@ -65,19 +56,18 @@ same-length-4 c = search needs
 
 returns-2 : tie.Need-returns-2
 returns-2 c =
-    let tried = c .before .before .before in
-    let told = tried .before .before .before .before .before .before in
+    let ended = c .before .before .before .before in
+    let told = ended .before .before .before .before .before .before in
     let kept = told .before .before .before in
     let laid = kept .before in
     let given = laid .before .before .before .before .before in
     let args = given .args in
     let tape = args .tape .now in
     let nodes = args .nodes .now in
-    let found = settled-after (told .answer2 .given .1) (layoutOf tape (args .initial) (length nodes)) (laid .lay-out .ensures .0) in
-    let same = laid-tried tape nodes (args .initial) (given .pre .1) (given .pre .4) (found .1) (found .2) (laid .lay-out .ensures .1) in
-    (
-      left-same (args .image .now) (args .list .now) _ (built tape (origin (args .initial))) same (tried .build-tried .ensures),
-      kept .nodes .given
+    let found = settled-after (told .answer2 .given .1) (layoutOf tape (args .initial) (length nodes)) (laid .lay-out .ensures .0) in (
+      left-laid tape nodes (args .initial) (given .pre .1) (given .pre .4) (given .pre .0) found (laid .lay-out .ensures .1)
+          (args .image .now) (given .pre .2) (args .list .now) (given .pre .3) (c .said .ensures) (ended .finish .ensures),
+      kept .nodes .given,
     )
 
 pub build-laid-spec : {M : Type 1} → statement M
@@ -88,7 +78,8 @@ build-laid-spec =
     enum-known-answer
     refused-requires
     enum-known-answer-2
-    build-tried-requires
+    finish-requires
+    said-requires
     same-length
     returns
     same-length-2

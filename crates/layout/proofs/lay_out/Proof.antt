@@ -44,10 +44,9 @@ returns-2 c =
     let args = tested .before .before .before .args in
     let tape = args .tape .now in
     let low = tested .if1 .left in
-    let refuses = names-refused (told .answer .given .1) _ (declared .declare .ensures .0) in
-    (
+    let refuses = names-refused (told .answer .given .1) _ (declared .declare .ensures .0) in (
       c .unsettled2 .ensures ∙ ap left (names-stop tape (args .initial) low (args .nodes .now) refuses),
-      declared .declare .ensures .1 ∙ noted tape (args .initial) low (args .nodes .now)
+      declared .declare .ensures .1 ∙ noted tape (args .initial) low (args .nodes .now),
     )
 
 same-length-2 : tie.Need-same-length-2
@@ -61,10 +60,9 @@ returns-3 c =
     let args = tested .before .before .before .args in
     let tape = args .tape .now in
     let low = tested .if1 .left in
-    let found = names-done (told .enum-told .given .1) _ (declared .declare .ensures .0) in
-    (
+    let found = names-done (told .enum-told .given .1) _ (declared .declare .ensures .0) in (
       c .settle .ensures ∙ ap left (names-go tape (args .initial) low (args .nodes .now) (found .1) (declared .declare .ensures .1)),
-      declared .declare .ensures .1 ∙ noted tape (args .initial) low (args .nodes .now)
+      declared .declare .ensures .1 ∙ noted tape (args .initial) low (args .nodes .now),
     )
 
 pub lay-out-spec : {M : Type 1} → statement M

@@ -1,0 +1,3 @@
+-- What the tries answer, said with the numbers; and that the call allows one answer.
+pub mod Finishing
+pub mod Unique

@@ -1,0 +1,27 @@
+-- The public call allows one answer, and one image and list at exit: the law of `refusals`, applied to its own contract. Assumes nothing.
+use mathlib.Core.List.{List}
+use mathlib.Core.Path.{_≡_, refl, ap}
+use Prim.Native.Nat.{ℕ}
+use lib.IntN.{ℤ}
+use Rattle.refusals.specs.AnswerAt.{AnswerAt, Fine, Fault}
+use Rattle.refusals.proofs.Unique.{One, same, told-apart}
+use Rattle.finish.specs.declared.Ended as E
+use Rattle.finish.specs.declared.Ended.the-variants as cases
+use Rattle.finish.specs.Finish.{Ends, saysEnded}
+use Rattle.finish.proofs.finish.Reads as finish
+
+abbrev backEnded : AnswerAt Ends → E.Ended
+backEnded (Fine r) = cases.Range (r .0) (r .1) (r .2)
+backEnded (Fault n at) = cases.Refused n at
+
+back-ended : (x : E.Ended) → backEnded (saysEnded x) ≡ x
+back-ended (cases.Range start end numbers) = refl
+back-ended (cases.Refused n at) = refl
+
+-- the result, and what is left in the two buffers
+pub finish-one : One {S = λ k. E.Ended × List ℕ × List ℤ} (λ k x e. (x, e .1 .1 .1 .1 .0 .now, e .1 .1 .1 .1 .1 .0 .now)) finish.Post
+finish-one k a x y e f p q =
+    let answer = told-apart saysEnded backEnded back-ended (ap (λ z. z .0) p) (ap (λ z. z .0) q) in
+    let image = same (ap (λ z. z .1) p) (ap (λ z. z .1) q) in
+    let list = same (ap (λ z. z .2) p) (ap (λ z. z .2) q) in
+    λ i. (answer i, image i, list i)

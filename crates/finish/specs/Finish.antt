@@ -1,0 +1,33 @@
+-- What the tries of a build answer, and what they leave of an image and of a number list. Document 01: "A finished build leaves the list's
+-- numbers" and the image; a refused one leaves both as they were. Assumes nothing: these are definitions.
+use Prim.Native.Nat.{ℕ}
+use mathlib.Core.List.{List}
+use lib.IntN.{ℤ}
+use lib.ListN.{length}
+use Rattle.refusals.specs.AnswerAt.{AnswerAt, Fine, Fault}
+use Rattle.walk.specs.declared.Numbers.{Numbers}
+use Rattle.compares.specs.Compared.{builder}
+use Rattle.tries.specs.Tries.{Trying}
+use Rattle.tries.specs.Write.{writeOf}
+use Rattle.number_list.specs.Calls.{onto, gathered}
+use Rattle.finish.specs.declared.Ended as E
+use Rattle.finish.specs.declared.Ended.the-variants as cases
+
+-- start, end, and how many numbers
+abbrev pub Ends : Type 0
+Ends = ℕ × ℕ × ℕ
+
+abbrev pub saysEnded : E.Ended → AnswerAt Ends
+saysEnded (cases.Range start end numbers) = Fine (start, end, numbers)
+saysEnded (cases.Refused n at) = Fault n at
+
+-- l: the tape's numbers
+abbrev pub finished : (l : List ℤ) (image : List ℕ) (list : List ℤ) → AnswerAt Trying → AnswerAt Ends × List ℕ × List ℤ
+finished l image list (Fine t) = (Fine (t .page .pen .start, t .page .pen .end, length l), t .page .image, onto list l)
+finished l image list (Fault n at) = (Fault n at, image, list)
+
+-- the call
+unfoldable pub finishOf : (tape nodes : List ℕ) → Numbers → (initial : ℕ) (image : List ℕ) (list : List ℤ)
+    → AnswerAt Ends × List ℕ × List ℤ
+finishOf tape nodes numbers initial image list =
+    finished (gathered tape (numbers .number)) image list (writeOf tape nodes numbers initial builder (length image))
