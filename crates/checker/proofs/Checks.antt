@@ -11,13 +11,18 @@ use lib.ListN.{length, replicate, length-replicate}
 use borrow.Author.Tests.{eq-eqb, ne-eqb, leb-true}
 use Rattle.refusals.specs.Answer.{pick}
 use Rattle.refusals.specs.AnswerAt.{AnswerAt, Fine, Fault, andThen}
+use Rattle.refusals.specs.Says.{saysAt}
 use Rattle.refusals.specs.Table.{numberDiffers}
+use Rattle.refusals.specs.declared.OutcomeAt.{OutcomeAt}
+use Rattle.refusals.specs.declared.OutcomeAt.the-variants as outcome
+use Rattle.refusals.proofs.Pick.{at-true}
 use Rattle.pen.specs.Pens.{size}
+use Rattle.edges.specs.Edges.{maxNodes}
 use Rattle.symbols.specs.declared.SymbolTable.{SymbolTable}
 use Rattle.form.specs.Form.{maxTape}
 use Rattle.form.specs.Statements.{Statement, statements}
 use Rattle.evaluator.specs.Expression.{Value}
-use Rattle.names.specs.Names.{namesOf, declareOf, notesAfter}
+use Rattle.names.specs.Names.{left, namesOf, declareOf, notesAfter}
 use Rattle.names.proofs.Kept.{notes-are}
 use Rattle.walk.specs.declared.Numbers.{Numbers}
 use Rattle.walk.specs.Walk.{Origin, origin}
@@ -29,14 +34,14 @@ use Rattle.tries.specs.Tries.{Trying, start, tries}
 use Rattle.tries.specs.Write.{triedAll, writeOf}
 use Rattle.tries.proofs.Agrees.{tries-alike, write-allowed}
 use Rattle.reads.specs.Reads.{readsOn}
-use Rattle.reads.proofs.Names.{declare-is}
+use Rattle.reads.proofs.Names.{names-refused, names-done, declare-is, few-names}
 use Rattle.reads.proofs.Reading.{all-alike}
 use Rattle.number_list.specs.Lists.{count, valuesOf}
 use Rattle.number_list.proofs.Kept.{values-length}
 use Rattle.compares.specs.Compared.{checker}
 use Rattle.verdict.specs.Verdict.{judged, verdictOf}
 use Rattle.checker.specs.Check.{checkedBy, checked}
-use Rattle.checker.specs.Call.{isAllowed}
+use Rattle.checker.specs.Call.{isAllowed, checkOf}
 
 -- ---- memory of the call's own
 
@@ -119,13 +124,13 @@ checked-alike r s xs o numbers from bytes h =
     (tries-alike r s checker (numbered (valuesOf xs numbers)) (start o) xs h)
 
 module _ (tape : List ℕ) (o : Origin) (numbers : List ℤ) (from : ℕ) (bytes : List ℕ) where
-  pub checked-fault : {m at : ℕ} → namesOf tape ≡ Fault m at → Fault m at ≡ checked tape o numbers from bytes
+  checked-fault : {m at : ℕ} → namesOf tape ≡ Fault m at → Fault m at ≡ checked tape o numbers from bytes
   unfolding checked
   checked-fault e =
       sym (ap (λ (a : AnswerAt SymbolTable). andThen a (λ t. checkedBy (readsOn tape t) (statements tape) o numbers from bytes)) e)
 
   -- by what is noted at the name records
-  pub checked-noted : {t : SymbolTable} → namesOf tape ≡ Fine t → (nodes : List ℕ) → length nodes ≡ maxTape → {nodes′ : List ℕ}
+  checked-noted : {t : SymbolTable} → namesOf tape ≡ Fine t → (nodes : List ℕ) → length nodes ≡ maxTape → {nodes′ : List ℕ}
       → nodes′ ≡ notesAfter tape nodes (declareOf tape (length nodes))
       → checkedBy (readsNoted tape nodes′) (statements tape) o numbers from bytes ≡ checked tape o numbers from bytes
   unfolding checked
@@ -134,3 +139,33 @@ module _ (tape : List ℕ) (o : Origin) (numbers : List ℤ) (from : ℕ) (bytes
       ap (λ (l : List ℕ). checkedBy (readsNoted tape l) (statements tape) o numbers from bytes) is
       ∙ checked-alike _ (readsOn tape t) (statements tape) o numbers from bytes (all-alike tape fine _ resolved)
       ∙ sym (ap (λ (a : AnswerAt SymbolTable). andThen a (λ t. checkedBy (readsOn tape t) (statements tape) o numbers from bytes)) fine)
+
+-- ---- the call
+
+-- behind the test of the arguments, with nodes lent to the names for their notes
+module _ (tape : List ℕ) (initial : ℕ) (numbers : List ℤ) (from : ℕ) (bytes : List ℕ)
+    (in-range : isAllowed (length tape) initial from (length bytes) ≡ true) (nodes : List ℕ) (long : length nodes ≡ maxTape) where
+  -- the names refuse
+  pub names-stop : {table : SymbolTable} {answer : OutcomeAt} {m at : ℕ} → answer ≡ outcome.Refused m at
+      → (table, saysAt answer) ≡ left (declareOf tape (length nodes)) → {v : AnswerAt (Unit {0})} → v ≡ Fault m at
+      → v ≡ checkOf tape initial numbers from bytes
+  unfolding checkOf
+  names-stop is told v-is =
+      let refuses = names-refused is (declareOf tape (length nodes)) told in
+      v-is ∙ checked-fault tape (origin initial) numbers from bytes (sym (declare-is tape long) ∙ refuses) ∙ at-true _ _ in-range
+
+  -- or are declared: then they are few
+  module _ {table : SymbolTable} {answer : OutcomeAt} (is : answer ≡ outcome.Done)
+      (told : (table, saysAt answer) ≡ left (declareOf tape (length nodes))) where
+    named : (t : SymbolTable) × (namesOf tape ≡ Fine t)
+    named = let found = names-done is (declareOf tape (length nodes)) told in (found .0, sym (declare-is tape long) ∙ found .1)
+
+    pub names-few : (length tape ≤ maxTape) × (initial ≤ size) × (declarations (statements tape) < maxNodes)
+    names-few = let fine = allowed _ _ _ _ in-range in (fine .tape, fine .initial, few-names tape (named .1))
+
+    pub names-go : {nodes′ : List ℕ} → nodes′ ≡ notesAfter tape nodes (declareOf tape (length nodes))
+        → {v : AnswerAt (Unit {0})} → v ≡ checkedBy (readsNoted tape nodes′) (statements tape) (origin initial) numbers from bytes
+        → v ≡ checkOf tape initial numbers from bytes
+    unfolding checkOf
+    names-go noted v-is =
+        v-is ∙ checked-noted tape (origin initial) numbers from bytes (named .1) nodes long noted ∙ at-true _ _ in-range

@@ -18,8 +18,8 @@ use Rattle.refusals.specs.Answer.{Answer, pick}
 use Rattle.refusals.specs.AnswerAt as A
 use Rattle.refusals.specs.AnswerAt.{AnswerAt, Fine, Fault}
 use Rattle.refusals.specs.Table.{argument, badRecord, tooDeep}
-use Rattle.int64.specs.Num.{notOf}
-use Rattle.int64.proofs.Refusing.{Arithmetic, done, out, either, fit-arithmetic, applied-arithmetic}
+use Rattle.operators.specs.Operators.{notOf}
+use Rattle.operators.proofs.Refusing.{Arithmetic, done, out, either, fit-arithmetic, applied-arithmetic}
 use Rattle.little.specs.Little.{numberAt}
 use Rattle.symbols.specs.declared.SymbolTable.{SymbolTable}
 use Rattle.symbols.specs.Symbols.{isNode}

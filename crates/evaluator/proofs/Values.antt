@@ -15,7 +15,8 @@ use mir.Val.{toZ, ofZ, SFits}
 use Rattle.refusals.specs.Answer.{Answer, Done}
 use Rattle.int64.specs.declared.Number as N
 use Rattle.int64.specs.declared.Number.the-variants as number
-use Rattle.int64.specs.Num.{fit, notOf, lowByte, highByte, applied}
+use Rattle.int64.specs.Num.{fit, lowByte, highByte}
+use Rattle.operators.specs.Operators.{notOf, applied}
 use Rattle.int64.specs.Says.{says}
 use Rattle.symbols.specs.declared.Data as D
 use Rattle.symbols.specs.declared.Data.the-variants as datum

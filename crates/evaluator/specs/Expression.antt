@@ -10,7 +10,8 @@ use mir.Syntax.{w64}
 use mir.Val.{toZ}
 use Rattle.refusals.specs.Answer.{Answer, Done, Refused, pick}
 use Rattle.refusals.specs.Table.{badRecord, tooDeep}
-use Rattle.int64.specs.Num.{fit, notOf, lowByte, highByte, applied}
+use Rattle.int64.specs.Num.{fit, lowByte, highByte}
+use Rattle.operators.specs.Operators.{notOf, applied}
 use Rattle.little.specs.Little.{numberAt}
 use Rattle.tape.specs.Kinds.{number, currentPlace, flags, binary, isName}
 use Rattle.tape.specs.Record.{bytesAt}

@@ -240,7 +240,7 @@ fn join(at: usize, op: u8, left: Value, right: Value) -> Value
         Value::Number(a) => match right {
             Value::Refused { .. } => right,
             Value::Unresolved(_) => right,
-            Value::Number(b) => value_of(at, int64::apply_i64(op, a, b)),
+            Value::Number(b) => value_of(at, operators::apply_i64(op, a, b)),
         },
     }
 }
@@ -272,12 +272,12 @@ fn flag(flags: u8, a: i64) -> Number
     ensures { λ r. ⌜ says r ≡ flagged flags a ⌝ }
 {
     if flags == 1 {
-        return Number::Is(int64::not(a));
+        return Number::Is(operators::not(a));
     }
     if flags == 2 {
         return int64::neg(a);
     }
-    int64::neg(int64::not(a))
+    int64::neg(operators::not(a))
 }
 
 // What arithmetic answers at a record.

@@ -1,6 +1,6 @@
 -- Laws of i64: its bits, its sign and size, and what fits. Assumes nothing.
 use mathlib.Core.Path.{_≡_, refl, sym, ap, _∙_, subst}
-use mathlib.Core.Bool.{Bool, true, false, not, _&&_, _||_, Bool·beq}
+use mathlib.Core.Bool.{Bool, true, false, not, Bool·beq}
 use Prim.Native.Nat.{ℕ, zero, suc, _+_, _-_, _*_, _/_, _%_, _^_, _≤_, _<_}
 use native.Mathlib.Omega.{arith}
 use native.Mathlib.Nat.{mul-assoc, add-mod, lt-of-le-of-lt}
@@ -8,7 +8,7 @@ use native.Mathlib.Decide.{decLt}
 use lib.Pow.{pow-add, pow-pos}
 use lib.Dec.{T, ltb, leb·suc-zero}
 use lib.IntN.{ℤ, pos, negsuc, negℤ, natAbs, subℕ, _+ℤ_, _*ℤ_, negℤ-+ℤ}
-use lib.Signed.{mag, ltZ, leZ, nonNeg, quotZ, remZ, shrZ, mag-shr, mag-rem}
+use lib.Signed.{mag, ltZ, nonNeg, quotZ, remZ, shrZ, mag-shr, mag-rem}
 use mir.Syntax.{w64}
 use mir.Val.{toZ, ofZ, SFits, Fits}
 use mir.Facts.{toZ-ofZ, toZ-pos, toZ-neg, fits-natAbs}
@@ -16,8 +16,8 @@ use borrow.Author.Tests.{ltb-true, lt-ltb, le-ltb, eq-eqb, ne-eqb}
 use mir.ValLaws.{sfits-le}
 use Rattle.int64.proofs.Modulo.{low-bits, low-product}
 use Rattle.refusals.specs.Answer.{Answer, Done, Refused, pick, andThen}
-use Rattle.refusals.specs.Table.{argument, arithmetic}
-use Rattle.int64.specs.Num.{fit, modZ, wrapped, counts, shifted, shiftedBy, halved, halvedBy, remaining, eqZ, flag, isOn, notOf, lowByte, highByte, applied}
+use Rattle.refusals.specs.Table.{arithmetic}
+use Rattle.int64.specs.Num.{fit, modZ, wrapped, counts, shifted, shiftedBy, halved, halvedBy, remaining, eqZ, lowByte, highByte}
 use Rattle.int64.specs.SignAndSize.{belowZero, signed, apart}
 
 -- ---- the test `x < 0`, and the bits of what is below zero
@@ -282,35 +282,6 @@ module _ {a : ℤ} (f : SFits w64 a) (b : ℤ) where
   pub remaining-is : {q : ℤ} {x : Answer ℤ} → ((natAbs b ≡ 0) → ⊥) → fit (quotZ a b) ≡ Done q → x ≡ fit (remZ a b) → x ≡ remaining a b
   remaining-is n e p = p ∙ remaining-in f b ∙ ap (λ (q : Answer ℤ). andThen q (λ z. Done (remZ a b))) (sym e) ∙ rest n
 
--- ---- And and Or: r is what `on` gave, t what the branch on it says
-
-on-is : {z : ℤ} {r t : Bool} → SFits w64 z → r ≡ isOn (back z) → r ≡ t → t ≡ isOn z
-on-is {z} f p q = sym q ∙ p ∙ ap isOn (toZ-ofZ f)
-
-module _ {a b : ℤ} {r s : Bool} (f : SFits w64 a) (g : SFits w64 b) (p : r ≡ isOn (back a)) where
-  pub and-true : r ≡ true → s ≡ isOn (back b) → s ≡ true → pos 1 ≡ flag (isOn a && isOn b)
-  and-true q ps qs = ap (λ (x : Bool). flag (x && true)) (on-is f p q) ∙ ap (λ (y : Bool). flag (isOn a && y)) (on-is g ps qs)
-
-  pub and-false : r ≡ true → s ≡ isOn (back b) → s ≡ false → pos 0 ≡ flag (isOn a && isOn b)
-  and-false q ps qs = ap (λ (x : Bool). flag (x && false)) (on-is f p q) ∙ ap (λ (y : Bool). flag (isOn a && y)) (on-is g ps qs)
-
-  pub or-true : r ≡ false → s ≡ isOn (back b) → s ≡ true → pos 1 ≡ flag (isOn a || isOn b)
-  or-true q ps qs = ap (λ (x : Bool). flag (x || true)) (on-is f p q) ∙ ap (λ (y : Bool). flag (isOn a || y)) (on-is g ps qs)
-
-  pub or-false : r ≡ false → s ≡ isOn (back b) → s ≡ false → pos 0 ≡ flag (isOn a || isOn b)
-  or-false q ps qs = ap (λ (x : Bool). flag (x || false)) (on-is f p q) ∙ ap (λ (y : Bool). flag (isOn a || y)) (on-is g ps qs)
-
-module _ {a : ℤ} {r : Bool} (f : SFits w64 a) (b : ℤ) (p : r ≡ isOn (back a)) where
-  pub and-none : r ≡ false → pos 0 ≡ flag (isOn a && isOn b)
-  and-none q = ap (λ (x : Bool). flag (x && isOn b)) (on-is f p q)
-
-  pub or-one : r ≡ true → pos 1 ≡ flag (isOn a || isOn b)
-  or-one q = ap (λ (x : Bool). flag (x || isOn b)) (on-is f p q)
-
--- NOT
-pub not-is : {z : ℤ} {r t : Bool} → SFits w64 z → r ≡ isOn (back z) → r ≡ t → flag (not t) ≡ notOf z
-not-is f p q = ap (λ (x : Bool). flag (not x)) (on-is f p q)
-
 -- ---- low bytes
 
 -- of an m that divides 2 ^ 64
@@ -321,28 +292,3 @@ pub high-is : {z : ℤ} {r : ℕ} → SFits w64 z → r ≡ lowByte (back (shrZ 
 high-is {z} f e =
     let g : SFits w64 (shrZ z 256) = sfits-le (mag-shr z 256) f in
     e ∙ ap (λ (x : ℤ). lowByte (back (shrZ x 256))) (toZ-ofZ f) ∙ ap lowByte (toZ-ofZ g)
-
--- ---- the operators: n is the number that the match found, x what the call of that operator says
-
-module _ {op : ℕ} {a b : ℤ} (f : SFits w64 a) (g : SFits w64 b) where
-  pub operator : (n : ℕ) {x : Answer ℤ} → op ≡ n → x ≡ applied n (back a) (back b) → x ≡ applied op a b
-  operator n e p = p ∙ rw (toZ-ofZ f, toZ-ofZ g, e) refl
-
-  -- of an operator that refuses nothing
-  pub test : (n : ℕ) {r z : ℤ} → op ≡ n → SFits w64 r → r ≡ z → Done z ≡ applied n (back a) (back b) → Done (back r) ≡ applied op a b
-  test n e h p q = operator n e (ap Done (toZ-ofZ h ∙ p) ∙ q)
-
--- none of the first n numbers, as a match leaves it to its last arm
-abbrev NoneBelow : ℕ → ℕ → Type 0
-NoneBelow op zero = Unit {0}
-NoneBelow op (suc n) = NoneBelow op n × (op ≡ n → ⊥)
-
-beyond : (op n : ℕ) → NoneBelow op n → n ≤ op
-beyond op zero r = omega arith
-beyond op (suc n) r =
-    let h : n ≤ op = beyond op n (r .0) in
-    let d : op ≡ n → ⊥ = r .1 in
-    omega arith
-
-pub no-operator : (op : ℕ) (a b : ℤ) → NoneBelow op 16 → Refused argument ≡ applied op a b
-no-operator op a b r = simp (le-ltb op 16 (beyond op 16 r))

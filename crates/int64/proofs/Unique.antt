@@ -17,19 +17,9 @@ use Rattle.int64.proofs.rem.Reads as rem
 use Rattle.int64.proofs.shl.Reads as shl
 use Rattle.int64.proofs.shr.Reads as shr
 use Rattle.int64.proofs.xor.Reads as xor
-use Rattle.int64.proofs.eq.Reads as eq
-use Rattle.int64.proofs.ne.Reads as ne
-use Rattle.int64.proofs.gt.Reads as gt
-use Rattle.int64.proofs.gt_eq.Reads as gt-eq
-use Rattle.int64.proofs.lt.Reads as lt
-use Rattle.int64.proofs.lt_eq.Reads as lt-eq
-use Rattle.int64.proofs.and.Reads as and
-use Rattle.int64.proofs.or.Reads as or
-use Rattle.int64.proofs.not.Reads as not
 use Rattle.int64.proofs.low_byte.Reads as low-byte
 use Rattle.int64.proofs.high_byte.Reads as high-byte
 use Rattle.int64.proofs.low_word.Reads as low-word
-use Rattle.int64.proofs.apply_i64.Reads as apply-i64
 
 -- the case of `Number` that says this
 abbrev pub back : Answer ℤ → N.Number
@@ -73,33 +63,6 @@ shr-one k a x y e f p q = told-apart says back back-says p q
 pub xor-one : OneResult xor.Post
 xor-one k a x y e f p q = same p q
 
-pub eq-one : OneResult eq.Post
-eq-one k a x y e f p q = same p q
-
-pub ne-one : OneResult ne.Post
-ne-one k a x y e f p q = same p q
-
-pub gt-one : OneResult gt.Post
-gt-one k a x y e f p q = same p q
-
-pub gt-eq-one : OneResult gt-eq.Post
-gt-eq-one k a x y e f p q = same p q
-
-pub lt-one : OneResult lt.Post
-lt-one k a x y e f p q = same p q
-
-pub lt-eq-one : OneResult lt-eq.Post
-lt-eq-one k a x y e f p q = same p q
-
-pub and-one : OneResult and.Post
-and-one k a x y e f p q = same p q
-
-pub or-one : OneResult or.Post
-or-one k a x y e f p q = same p q
-
-pub not-one : OneResult not.Post
-not-one k a x y e f p q = same p q
-
 pub low-byte-one : OneResult low-byte.Post
 low-byte-one k a x y e f p q = same p q
 
@@ -108,6 +71,3 @@ high-byte-one k a x y e f p q = same p q
 
 pub low-word-one : OneResult low-word.Post
 low-word-one k a x y e f p q = same p q
-
-pub apply-i64-one : OneResult apply-i64.Post
-apply-i64-one k a x y e f p q = told-apart says back back-says p q

@@ -1,16 +1,13 @@
-// Arithmetic on i64 that refuses (10) where the Rust overflows: the operators of the Rust's `BinaryOp`, its two flags, and
-// the low bytes of a number. Each function equals a definition over the integers.
-// Only the first four functions, `shr` and the comparisons touch an i64: the rest is on a sign and a size, or on a word of bits.
-use refusals::ARGUMENT;
+// Arithmetic on i64 that refuses (10) where the Rust overflows, and the low bytes of a number. Each function equals a definition over
+// the integers. Only the first four functions and `shr` touch an i64: the rest is on a sign and a size, or on a word of bits.
 use refusals::ARITHMETIC;
 ghost use mathlib.Core.Path.{_≡_};
 ghost use Prim.Native.Nat.{_+_, _*_, _%_, _^_};
-ghost use mathlib.Core.Bool.{not, _&&_, _||_};
+ghost use mathlib.Core.Bool.{not};
 ghost use lib.IntN.{natAbs, negℤ, _+ℤ_, _-ℤ_, _*ℤ_};
-ghost use lib.Signed.{ltZ, leZ};
 ghost use mir.Syntax.{w64};
 ghost use mir.Val.{toZ, ofZ};
-ghost use Rattle.int64.specs.Num.{fit, divided, remaining, shifted, halved, xored, flag, eqZ, isOn, notOf, lowByte, highByte, lowWord, applied};
+ghost use Rattle.int64.specs.Num.{fit, divided, remaining, shifted, halved, xored, lowByte, highByte, lowWord};
 ghost use Rattle.int64.specs.Says.{says};
 ghost use Rattle.int64.specs.SignAndSize.{belowZero, signed, apart};
 
@@ -231,82 +228,6 @@ pub fn xor(a: i64, b: i64) -> i64
     a ^ b
 }
 
-// a == b, as 0 or 1.
-pub fn eq(a: i64, b: i64) -> i64
-    ensures { λ r. ⌜ r ≡ flag (eqZ a b) ⌝ }
-{
-    if a == b { 1 } else { 0 }
-}
-
-// a != b, as 0 or 1.
-pub fn ne(a: i64, b: i64) -> i64
-    ensures { λ r. ⌜ r ≡ flag (not (eqZ a b)) ⌝ }
-{
-    if a == b { 0 } else { 1 }
-}
-
-// a > b, as 0 or 1.
-pub fn gt(a: i64, b: i64) -> i64
-    ensures { λ r. ⌜ r ≡ flag (ltZ b a) ⌝ }
-{
-    if b < a { 1 } else { 0 }
-}
-
-// a >= b, as 0 or 1.
-pub fn gt_eq(a: i64, b: i64) -> i64
-    ensures { λ r. ⌜ r ≡ flag (leZ b a) ⌝ }
-{
-    if b <= a { 1 } else { 0 }
-}
-
-// a < b, as 0 or 1.
-pub fn lt(a: i64, b: i64) -> i64
-    ensures { λ r. ⌜ r ≡ flag (ltZ a b) ⌝ }
-{
-    if a < b { 1 } else { 0 }
-}
-
-// a <= b, as 0 or 1.
-pub fn lt_eq(a: i64, b: i64) -> i64
-    ensures { λ r. ⌜ r ≡ flag (leZ a b) ⌝ }
-{
-    if a <= b { 1 } else { 0 }
-}
-
-// Whether a is not 0.
-fn on(a: i64) -> bool
-    ensures { λ r. ⌜ r ≡ isOn a ⌝ }
-{
-    size(a) != 0
-}
-
-// a && b: whether both are not 0, as 0 or 1.
-pub fn and(a: i64, b: i64) -> i64
-    ensures { λ r. ⌜ r ≡ flag (isOn a && isOn b) ⌝ }
-{
-    if on(a) { if on(b) { 1 } else { 0 } } else { 0 }
-}
-
-// a || b: whether one of them is not 0, as 0 or 1.
-pub fn or(a: i64, b: i64) -> i64
-    ensures { λ r. ⌜ r ≡ flag (isOn a || isOn b) ⌝ }
-{
-    if on(a) {
-        1
-    } else if on(b) {
-        1
-    } else {
-        0
-    }
-}
-
-// NOT: 1 of 0, else 0.
-pub fn not(a: i64) -> i64
-    ensures { λ r. ⌜ r ≡ notOf a ⌝ }
-{
-    if on(a) { 0 } else { 1 }
-}
-
 // a modulo 256.
 pub fn low_byte(a: i64) -> u8
     ensures { λ r. ⌜ r ≡ lowByte a ⌝ }
@@ -326,29 +247,4 @@ pub fn low_word(a: i64) -> u16
     ensures { λ r. ⌜ r ≡ lowWord a ⌝ }
 {
     (word(a) % 65536) as u16
-}
-
-// The operator of this number, 0 to 15 in the tape's order, on two numbers; any other number is refused (1).
-pub fn apply_i64(op: u8, lhs: i64, rhs: i64) -> Number
-    ensures { λ r. ⌜ says r ≡ applied op lhs rhs ⌝ }
-{
-    match op {
-        0 => add(lhs, rhs),
-        1 => sub(lhs, rhs),
-        2 => mul(lhs, rhs),
-        3 => div(lhs, rhs),
-        4 => rem(lhs, rhs),
-        5 => shl(lhs, rhs),
-        6 => shr(lhs, rhs),
-        7 => Number::Is(xor(lhs, rhs)),
-        8 => Number::Is(eq(lhs, rhs)),
-        9 => Number::Is(ne(lhs, rhs)),
-        10 => Number::Is(gt(lhs, rhs)),
-        11 => Number::Is(gt_eq(lhs, rhs)),
-        12 => Number::Is(lt(lhs, rhs)),
-        13 => Number::Is(lt_eq(lhs, rhs)),
-        14 => Number::Is(and(lhs, rhs)),
-        15 => Number::Is(or(lhs, rhs)),
-        _ => Number::Refused(ARGUMENT),
-    }
 }

@@ -9,7 +9,7 @@ use libc::STDIN_FILENO;
 use libc::STDOUT_FILENO;
 use passes::LIMIT;
 use passes::Passes;
-use refusals::OutcomeAt;
+use refusals::NOT_SETTLED;
 use symbols::Data;
 use symbols::NODES;
 use tape::LABEL;
@@ -31,28 +31,23 @@ fn main() {
     show(&tape[..length]);
 }
 
-// Form and names, then the passes.
+// Lays the tape out, and shows as many passes as there were until one gave back what it read.
 fn show(tape: &[u8]) {
     let mut nodes = [0u16; LONGEST];
-    let declared = names::declare(tape, &mut nodes);
-    let answer = declared.answer;
+    let settled = layout::lay_out(tape, INITIAL, &mut nodes);
+    let answer = settled.answer;
     match answer {
-        OutcomeAt::Refused { number, at } => print_refused(number, at),
-        OutcomeAt::Done => show_settled(tape, &nodes),
+        Passes::After(count) => show_passes(tape, &nodes, count),
+        Passes::Refused { number, at } => show_refused(tape, &nodes, number, at),
     }
 }
 
-// As many passes as there are until one gives back what it read; all of them where none does.
-fn show_settled<'a>(tape: &'a [u8], nodes: &'a [u16]) {
-    let settled = passes::settle(tape, nodes, INITIAL);
-    let answer = settled.answer;
-    match answer {
-        Passes::After(count) => show_passes(tape, nodes, count),
-        Passes::Refused { number, at } => {
-            show_passes(tape, nodes, LIMIT);
-            print_refused(number, at);
-        }
+// The refused line; before it, where no pass gave back what it read, all of them.
+fn show_refused<'a>(tape: &'a [u8], nodes: &'a [u16], number: u8, at: usize) {
+    if number == NOT_SETTLED {
+        show_passes(tape, nodes, LIMIT);
     }
+    print_refused(number, at);
 }
 
 // The head and the rows of so many passes.

@@ -8,12 +8,12 @@ use libc::STDOUT_FILENO;
 // What the operation gives.
 fn evaluate(operation: u8, a: i64, b: i64) -> Number {
     match operation {
-        16 => Number::Is(int64::not(a)),
+        16 => Number::Is(operators::not(a)),
         17 => int64::neg(a),
-        18 => int64::neg(int64::not(a)),
+        18 => int64::neg(operators::not(a)),
         19 => Number::Is(int64::low_byte(a) as i64),
         20 => Number::Is(int64::high_byte(a) as i64),
-        _ => int64::apply_i64(operation, a, b),
+        _ => operators::apply_i64(operation, a, b),
     }
 }
 

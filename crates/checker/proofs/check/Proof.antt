@@ -1,10 +1,8 @@
 -- The arguments, the names, and the numbers behind them. Assumes nothing.
 use mathlib.Core.Path.{sym, _∙_}
-use Rattle.refusals.proofs.Pick.{granted, stopped, at-true}
-use Rattle.walk.specs.Walk.{origin}
-use Rattle.reads.proofs.Names.{names-refused, names-done, declare-is, few-names}
+use Rattle.refusals.proofs.Pick.{granted, stopped}
 use Rattle.checker.specs.Call.{checkOf}
-use Rattle.checker.proofs.Checks.{blank, blank-length, allowed, checked-fault, checked-noted}
+use Rattle.checker.proofs.Checks.{blank, blank-length, names-few, names-stop, names-go}
 use borrow.Author.Needs.{needs}
 use Rattle.checker.proofs.check.Statement.{statement}
 use Rattle.checker.proofs.check.Tie as tie
@@ -45,36 +43,29 @@ check-numbers-requires c κs =
     let declared = told .before .before .before in
     let tested = declared .before .before in
     let args = tested .before .before .before .before .args in
-    let fine = allowed _ _ _ _ (granted (tested .before .is-allowed .ensures) (tested .if1 .left)) in
-    let found = names-done (told .enum-told .given .1) _ (declared .declare .ensures .0) in
-    (fine .tape, fine .initial, few-names (args .tape .now) (sym (declare-is (args .tape .now) blank-length) ∙ found .1))
+    let in-range = granted (tested .before .is-allowed .ensures) (tested .if1 .left) in
+    names-few (args .tape .now) (args .initial) (args .numbers .now) (args .start) (args .bytes .now) in-range blank blank-length
+    (told .enum-told .given .1) (declared .declare .ensures .0)
 
 returns-2 : tie.Need-returns-2
-unfolding checkOf
 returns-2 c =
     let told = c .before .before in
     let declared = told .before .before .before in
     let tested = declared .before .before in
     let args = tested .before .before .before .before .args in
-    let refuses = names-refused (told .answer .given .1) _ (declared .declare .ensures .0) in
-    c .refused2 .ensures
-    ∙ checked-fault (args .tape .now) (origin (args .initial)) (args .numbers .now) (args .start) (args .bytes .now)
-    (sym (declare-is (args .tape .now) blank-length) ∙ refuses)
-    ∙ at-true _ _ (granted (tested .before .is-allowed .ensures) (tested .if1 .left))
+    let in-range = granted (tested .before .is-allowed .ensures) (tested .if1 .left) in
+    names-stop (args .tape .now) (args .initial) (args .numbers .now) (args .start) (args .bytes .now) in-range blank blank-length
+    (told .answer .given .1) (declared .declare .ensures .0) (c .refused2 .ensures)
 
 returns-3 : tie.Need-returns-3
-unfolding checkOf
 returns-3 c =
     let told = c .before .before in
     let declared = told .before .before .before in
     let tested = declared .before .before in
     let args = tested .before .before .before .before .args in
-    let found = names-done (told .enum-told .given .1) _ (declared .declare .ensures .0) in
-    c .check-numbers .ensures
-    ∙ checked-noted (args .tape .now) (origin (args .initial)) (args .numbers .now) (args .start) (args .bytes .now)
-    (sym (declare-is (args .tape .now) blank-length) ∙ found .1) blank blank-length
-    (declared .declare .ensures .1)
-    ∙ at-true _ _ (granted (tested .before .is-allowed .ensures) (tested .if1 .left))
+    let in-range = granted (tested .before .is-allowed .ensures) (tested .if1 .left) in
+    names-go (args .tape .now) (args .initial) (args .numbers .now) (args .start) (args .bytes .now) in-range blank blank-length
+    (told .enum-told .given .1) (declared .declare .ensures .0) (declared .declare .ensures .1) (c .check-numbers .ensures)
 
 pub check-spec : {M : Type 1} → statement M
 check-spec =

@@ -1,4 +1,4 @@
--- `int64::on` meets its contract: only 0 has size 0. Assumes nothing.
+-- `operators::on` meets its contract: only 0 has size 0. Assumes nothing.
 use mathlib.Core.Path.{ap, _∙_}
 use mathlib.Core.Bool.{not}
 use mir.Facts.{toZ-ofZ}
@@ -6,8 +6,8 @@ use lib.Dec.{eqb}
 use lib.IntN.{natAbs}
 use Prim.Native.Nat.{ℕ}
 use borrow.Author.Needs.{needs}
-use Rattle.int64.proofs.on.Statement.{statement}
-use Rattle.int64.proofs.on.Tie as tie
+use Rattle.operators.proofs.on.Statement.{statement}
+use Rattle.operators.proofs.on.Tie as tie
 
 size-requires : tie.Need-size-requires
 size-requires c κs = search needs

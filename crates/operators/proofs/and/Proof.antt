@@ -1,8 +1,8 @@
--- `int64::and` meets its contract, by the three ways out. Assumes nothing.
-use Rattle.int64.proofs.Laws.{and-true, and-false, and-none}
+-- `operators::and` meets its contract, by the three ways out. Assumes nothing.
+use Rattle.operators.proofs.Laws.{and-true, and-false, and-none}
 use borrow.Author.Needs.{needs}
-use Rattle.int64.proofs.and.Statement.{statement}
-use Rattle.int64.proofs.and.Tie as tie
+use Rattle.operators.proofs.and.Statement.{statement}
+use Rattle.operators.proofs.and.Tie as tie
 
 on-requires : tie.Need-on-requires
 on-requires c κs = search needs

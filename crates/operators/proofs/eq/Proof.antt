@@ -1,11 +1,11 @@
--- `int64::eq` meets its contract: numbers are the same just where their bits are. Assumes nothing.
+-- `operators::eq` meets its contract: numbers are the same just where their bits are. Assumes nothing.
 use mathlib.Core.Path.{ap}
 use mir.Syntax.{w64}
 use mir.Val.{ofZ}
 use Rattle.int64.proofs.Laws.{eqZ-yes, eqZ-no, same-bits}
-use Rattle.int64.specs.Num.{flag}
-use Rattle.int64.proofs.eq.Statement.{statement}
-use Rattle.int64.proofs.eq.Tie as tie
+use Rattle.operators.specs.Operators.{flag}
+use Rattle.operators.proofs.eq.Statement.{statement}
+use Rattle.operators.proofs.eq.Tie as tie
 
 returns : tie.Need-returns
 returns c = ap flag (eqZ-yes (same-bits (c .before .fits .a) (c .before .fits .b) (c .if1 .taken)))

@@ -1,10 +1,10 @@
--- `int64::gt_eq` meets its contract: the test is on the numbers read back from their bits. Assumes nothing.
+-- `operators::gt_eq` meets its contract: the test is on the numbers read back from their bits. Assumes nothing.
 use mathlib.Core.Path.{sym, ap, _∙_}
 use lib.Signed.{leZ}
 use Rattle.int64.proofs.Laws.{read-both}
-use Rattle.int64.specs.Num.{flag}
-use Rattle.int64.proofs.gt_eq.Statement.{statement}
-use Rattle.int64.proofs.gt_eq.Tie as tie
+use Rattle.operators.specs.Operators.{flag}
+use Rattle.operators.proofs.gt_eq.Statement.{statement}
+use Rattle.operators.proofs.gt_eq.Tie as tie
 
 returns : tie.Need-returns
 returns c = ap flag (sym (c .if1 .taken) ∙ read-both leZ (c .before .fits .b) (c .before .fits .a))

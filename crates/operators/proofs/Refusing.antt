@@ -9,8 +9,9 @@ use lib.Signed.{mag, quotZ, remZ}
 use borrow.Author.Tests.{lt-ltb}
 use Rattle.refusals.specs.Answer.{Answer, Done, Refused, pick, andThen}
 use Rattle.refusals.specs.Table.{arithmetic}
-use Rattle.int64.specs.Num.{fit, counts, shiftedBy, halvedBy, operators, operated, applied}
-use Rattle.int64.specs.Num.{Operator, Add, Sub, Mul, Div, Mod, Shl, Shr, Xor, Eq, Ne, Gt, GtEq, Lt, LtEq, And, Or}
+use Rattle.int64.specs.Num.{fit, counts, shiftedBy, halvedBy}
+use Rattle.operators.specs.Operators.{operators, operated, applied}
+use Rattle.operators.specs.Operators.{Operator, Add, Sub, Mul, Div, Mod, Shl, Shr, Xor, Eq, Ne, Gt, GtEq, Lt, LtEq, And, Or}
 
 -- a number, or refused by arithmetic
 pub data Arithmetic : Answer ℤ → Type 0 where

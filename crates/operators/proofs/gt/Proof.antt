@@ -1,10 +1,10 @@
--- `int64::gt` meets its contract: the test is on the numbers read back from their bits. Assumes nothing.
+-- `operators::gt` meets its contract: the test is on the numbers read back from their bits. Assumes nothing.
 use lib.Signed.{ltZ}
 use Rattle.int64.proofs.Laws.{read-both}
 use mathlib.Core.Path.{sym, ap, _∙_}
-use Rattle.int64.specs.Num.{flag}
-use Rattle.int64.proofs.gt.Statement.{statement}
-use Rattle.int64.proofs.gt.Tie as tie
+use Rattle.operators.specs.Operators.{flag}
+use Rattle.operators.proofs.gt.Statement.{statement}
+use Rattle.operators.proofs.gt.Tie as tie
 
 returns : tie.Need-returns
 returns c = ap flag (sym (c .if1 .taken) ∙ read-both ltZ (c .before .fits .b) (c .before .fits .a))

@@ -1,8 +1,8 @@
--- `int64::or` meets its contract, by the three ways out. Assumes nothing.
-use Rattle.int64.proofs.Laws.{or-one, or-true, or-false}
+-- `operators::or` meets its contract, by the three ways out. Assumes nothing.
+use Rattle.operators.proofs.Laws.{or-one, or-true, or-false}
 use borrow.Author.Needs.{needs}
-use Rattle.int64.proofs.or.Statement.{statement}
-use Rattle.int64.proofs.or.Tie as tie
+use Rattle.operators.proofs.or.Statement.{statement}
+use Rattle.operators.proofs.or.Tie as tie
 
 on-requires : tie.Need-on-requires
 on-requires c κs = search needs

@@ -1,8 +1,8 @@
--- `int64::not` meets its contract: the branch says whether a is 0. Assumes nothing.
-use Rattle.int64.proofs.Laws.{not-is}
+-- `operators::not` meets its contract: the branch says whether a is 0. Assumes nothing.
+use Rattle.operators.proofs.Laws.{not-is}
 use borrow.Author.Needs.{needs}
-use Rattle.int64.proofs.not.Statement.{statement}
-use Rattle.int64.proofs.not.Tie as tie
+use Rattle.operators.proofs.not.Statement.{statement}
+use Rattle.operators.proofs.not.Tie as tie
 
 on-requires : tie.Need-on-requires
 on-requires c κs = search needs

@@ -1,12 +1,12 @@
--- `int64::ne` meets its contract: numbers are the same just where their bits are. Assumes nothing.
+-- `operators::ne` meets its contract: numbers are the same just where their bits are. Assumes nothing.
 use mathlib.Core.Path.{ap}
 use mathlib.Core.Bool.{Bool, not}
 use mir.Syntax.{w64}
 use mir.Val.{ofZ}
 use Rattle.int64.proofs.Laws.{eqZ-yes, eqZ-no, same-bits}
-use Rattle.int64.specs.Num.{flag}
-use Rattle.int64.proofs.ne.Statement.{statement}
-use Rattle.int64.proofs.ne.Tie as tie
+use Rattle.operators.specs.Operators.{flag}
+use Rattle.operators.proofs.ne.Statement.{statement}
+use Rattle.operators.proofs.ne.Tie as tie
 
 returns : tie.Need-returns
 returns c = ap (λ (b : Bool). flag (not b)) (eqZ-yes (same-bits (c .before .fits .a) (c .before .fits .b) (c .if1 .taken)))

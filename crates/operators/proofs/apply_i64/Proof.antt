@@ -1,10 +1,10 @@
--- `int64::apply_i64` meets its contract: each arm is the operator that the list of operators has at its number.
+-- `operators::apply_i64` meets its contract: each arm is the operator that the list of operators has at its number.
 -- Assumes nothing.
 use mathlib.Core.Path.{refl}
 use borrow.Author.Needs.{needs}
-use Rattle.int64.proofs.Laws.{operator, test, no-operator}
-use Rattle.int64.proofs.apply_i64.Statement.{statement}
-use Rattle.int64.proofs.apply_i64.Tie as tie
+use Rattle.operators.proofs.Laws.{operator, test, no-operator}
+use Rattle.operators.proofs.apply_i64.Statement.{statement}
+use Rattle.operators.proofs.apply_i64.Tie as tie
 
 add-requires : tie.Need-add-requires
 add-requires c κs = search needs
