@@ -28,13 +28,13 @@ use Rattle.number_list.proofs.Kept.{gather-told, list-zeros}
 use Rattle.compares.specs.Compared.{builder}
 use Rattle.reads.specs.Reads.{readsOn}
 use Rattle.reads.proofs.Names.{few-names}
-use Rattle.finish.specs.Finish.{Ends, finished, finishOf}
+use Rattle.finish.specs.Finish.{Report, finished, finishOf}
 use Rattle.layout.specs.Layout.{layoutOf, notedOf}
 use Rattle.layout.proofs.Layouts.{laid-by, laid-stops}
 use Rattle.builds.specs.Build.{Build, triedWith, builtBy, built}
 use Rattle.builds.proofs.Names.{built-noted}
-use Rattle.builder.specs.Call.{Report, Memory, memory, left}
-use Rattle.builder.specs.Steps.{leaving, withPasses}
+use Rattle.builder.specs.Call.{Memory, memory, left}
+use Rattle.builder.specs.Steps.{leaving}
 
 abbrev Reads : Type 0
 Reads = (ℕ → Option ℤ) → ℤ → ℕ → Value
@@ -90,23 +90,22 @@ module _ (tape nodes : List ℕ) (initial : ℕ) (asked : (length tape ≤ maxTa
   abbrev numbers-list : List ℤ
   numbers-list = gathered tape (numbers .number)
 
-  left-finished : {b : AnswerAt Report} {a : AnswerAt Ends} {image′ : List ℕ} {list′ : List ℤ} → b ≡ mapped (withPasses n) a
-      → (a, image′, list′) ≡ finishOf tape nodes numbers initial image list
+  left-finished : {b : AnswerAt Report} {image′ : List ℕ} {list′ : List ℤ}
+      → (b, image′, list′) ≡ finishOf tape nodes numbers n initial image list
       → Left b image image′ list list′ (triedOn tape nodes initial n numbers)
   unfolding finishOf triedOn
-  left-finished {b} {a} {image′} {list′} says e =
+  left-finished {b} {image′} {list′} e =
       let all = write-allowed tape nodes numbers initial builder (asked .0) (asked .1) whole in
-      go (triedAll tape nodes numbers initial builder) (e ∙ ap (finished numbers-list image list) all)
+      go (triedAll tape nodes numbers initial builder) (e ∙ ap (finished n numbers-list image list) all)
     where
-      go : (w : AnswerAt Trying) → (a, image′, list′) ≡ finished numbers-list image list w
+      go : (w : AnswerAt Trying) → (b, image′, list′) ≡ finished n numbers-list image list w
           → Left b image image′ list list′ (mapped (endOf n (numberList (statements tape) (drop 1 (numbers .number)))) w)
       go (Fine t) e =
           let told = gather-told tape (numbers .number) {list = list} (refl, refl) zero (asked .2) in
-          let answer = says ∙ ap (λ x. mapped (withPasses n) (x .0)) e
-          ∙ ap (λ (k : ℕ). Fine (t .page .pen .start, t .page .pen .end, k, n)) (told .0) in
+          let answer = ap (λ x. x .0) e ∙ ap (λ (k : ℕ). Fine (t .page .pen .start, t .page .pen .end, k, n)) (told .0) in
           let listed = ap (λ x. x .2) e ∙ told .1 in
           λ i. (answer i, e i .1, listed i)
-      go (Fault k at) e = (λ i. (says i, image′, list′)) ∙ (λ i. (mapped (withPasses n) (e i .0), e i .1, e i .2))
+      go (Fault k at) e = e
 
 -- ---- behind a layout
 
@@ -130,12 +129,12 @@ module _ (tape nodes : List ℕ) (initial : ℕ) (low : initial ≤ size) (long 
       → (L : Values) × (layoutOf tape initial (length nodes) ≡ Fine (n, L)) × (numbers ≡ numbersBy L)
       → {nodes′ : List ℕ} → nodes′ ≡ notedOf tape initial nodes
       → (image : List ℕ) → length image ≡ size → (list : List ℤ) → list ≡ replicate 1024 (pos 0)
-      → {b : AnswerAt Report} {a : AnswerAt Ends} {image′ : List ℕ} {list′ : List ℤ} → b ≡ mapped (withPasses n) a
-      → (a, image′, list′) ≡ finishOf tape nodes′ numbers initial image list → Left b image image′ list list′ (built tape (origin initial))
-  left-laid fits {n} {numbers} (L, laid, is) {nodes′} noted image whole list zero {b} {image′ = image′} {list′} says e =
+      → {b : AnswerAt Report} {image′ : List ℕ} {list′ : List ℤ} → (b, image′, list′) ≡ finishOf tape nodes′ numbers n initial image list
+      → Left b image image′ list list′ (built tape (origin initial))
+  left-laid fits {n} {numbers} (L, laid, is) {nodes′} noted image whole list zero {b} {image′} {list′} e =
       let few = few-names tape (laid-by tape initial low nodes laid noted .1) in
       subst (Left b image image′ list list′) (laid-tried laid is noted)
-      (left-finished tape nodes′ initial (fits, low, few) image whole list zero n numbers says e)
+      (left-finished tape nodes′ initial (fits, low, few) image whole list zero n numbers e)
 
   -- behind one that is refused, the build is refused
   pub laid-refused : {m at : ℕ} → layoutOf tape initial (length nodes) ≡ Fault m at → built tape (origin initial) ≡ Fault m at

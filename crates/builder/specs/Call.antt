@@ -13,8 +13,7 @@ use Rattle.edges.specs.Edges.{maxNodes}
 use Rattle.form.specs.Form.{maxTape}
 use Rattle.walk.specs.Walk.{origin}
 use Rattle.walk.specs.Numbers.{filled}
-use Rattle.builder.specs.declared.Built as B
-use Rattle.builder.specs.declared.Built.the-variants as cases
+use Rattle.finish.specs.Finish.{Report}
 use Rattle.builds.specs.Build.{Build, built}
 
 -- ---- arguments
@@ -30,16 +29,9 @@ isAllowed tape initial image list work =
 
 -- ---- the answer
 
--- start, end, how many numbers, and passes
-abbrev pub Report : Type 0
-Report = ℕ × ℕ × ℕ × ℕ
-
+-- of a build
 abbrev pub report : Build → Report
 report b = (b .start, b .end, length (b .numbers), b .passes)
-
-abbrev pub saysBuilt : B.Built → AnswerAt Report
-saysBuilt (cases.Finished start end numbers passes) = Fine (start, end, numbers, passes)
-saysBuilt (cases.Refused n at) = Fault n at
 
 -- ---- the buffers
 

@@ -5,15 +5,11 @@ use lib.IntN.{ℤ, pos}
 use Rattle.refusals.specs.AnswerAt.{AnswerAt, Fine, Fault}
 use Rattle.edges.specs.Edges.{maxNodes}
 use Rattle.walk.specs.Numbers.{filled}
-use Rattle.finish.specs.Finish.{Ends}
+use Rattle.finish.specs.Finish.{Report}
 use Rattle.builds.specs.Build.{Build}
-use Rattle.builder.specs.Call.{Report, report}
+use Rattle.builder.specs.Call.{report}
 
 -- what is answered, and what is left of an image and of a number list that was zero
 abbrev pub leaving : List ℕ → List ℤ → AnswerAt Build → AnswerAt Report × List ℕ × List ℤ
 leaving image list (Fine b) = (Fine (report b), b .image, filled maxNodes (pos 0) (b .numbers))
 leaving image list (Fault n at) = (Fault n at, image, list)
-
--- the end of a build, and how many passes there were
-abbrev pub withPasses : ℕ → Ends → Report
-withPasses passes e = (e .0, e .1, e .2, passes)

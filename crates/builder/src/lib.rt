@@ -1,6 +1,6 @@
 // The builder: from a tape to an image. The tape is laid out, and each statement tried with the numbers of its layout; the lent image is
 // written where nothing is refused, and the work memory is zero again at the end.
-use finish::Ended;
+pub use finish::Built;
 use form::LONGEST;
 use passes::Passes;
 use refusals::ARGUMENT;
@@ -9,36 +9,21 @@ ghost use mathlib.Core.Path.{_≡_};
 ghost use Prim.Native.Nat.{_≤_};
 ghost use lib.IntN.{pos};
 ghost use lib.ListN.{length, replicate};
-ghost use Rattle.refusals.specs.AnswerAt.{Fault, mapped};
+ghost use Rattle.refusals.specs.AnswerAt.{Fault};
 ghost use Rattle.pen.specs.Pens.{size};
 ghost use Rattle.edges.specs.Edges.{maxNodes};
 ghost use Rattle.form.specs.Form.{maxTape};
 ghost use Rattle.walk.specs.Walk.{origin};
-ghost use Rattle.finish.specs.Finish.{saysEnded};
+ghost use Rattle.finish.specs.Finish.{saysBuilt};
 ghost use Rattle.builds.specs.Build.{built};
-ghost use Rattle.builder.specs.Call.{workPlaces, isAllowed, memory, buildOf, saysBuilt};
-ghost use Rattle.builder.specs.Steps.{leaving, withPasses};
+ghost use Rattle.builder.specs.Call.{workPlaces, isAllowed, memory, buildOf};
+ghost use Rattle.builder.specs.Steps.{leaving};
 
 // How many bytes an image has; also the greatest place.
 pub const SIZE: usize = 65536;
 
 // How many places the work memory has: one for each offset of a tape.
 pub const WORK: usize = 65536;
-
-// A finished build: where what is written starts and ends, how many numbers the list has, and how many passes there were. Or the
-// refusal.
-pub enum Built {
-    Finished {
-        start: usize,
-        end: usize,
-        numbers: usize,
-        passes: usize,
-    },
-    Refused {
-        number: u8,
-        at: usize,
-    },
-}
 
 // Builds a tape from an initial place.
 pub fn build(
@@ -117,29 +102,7 @@ fn build_laid(
         Passes::Refused { number, at } => refused(number, at),
         Passes::After(n) => {
             let numbers = settled.numbers;
-            said(
-                finish::finish(tape, nodes, numbers, initial, image, list),
-                n,
-            )
+            finish::finish(tape, nodes, numbers, n, initial, image, list)
         }
-    }
-}
-
-// The end of a build after so many passes, said as an answer of this call.
-fn said(ended: Ended, passes: usize) -> Built
-    ensures { λ r. ⌜ saysBuilt r ≡ mapped (withPasses passes) (saysEnded ended) ⌝ }
-{
-    match ended {
-        Ended::Refused { number, at } => Built::Refused { number, at },
-        Ended::Range {
-            start,
-            end,
-            numbers,
-        } => Built::Finished {
-            start,
-            end,
-            numbers,
-            passes,
-        },
     }
 }

@@ -15,9 +15,9 @@ use Rattle.number_list.specs.Calls.{onto}
 use Rattle.finish.specs.Finish.{finished}
 
 -- w and image′: what the tries gave, which is a
-module _ (l : List ℤ) (image : List ℕ) (list : List ℤ) {w : W.Written} {image′ : List ℕ} where
+module _ (passes : ℕ) (l : List ℤ) (image : List ℕ) (list : List ℤ) {w : W.Written} {image′ : List ℕ} where
   pub tried-refused : {m at : ℕ} → w ≡ written.Refused m at → (a : AnswerAt Trying) → saysWritten w ≡ mapped rangeOf a
-      → image′ ≡ imageOr image a → (Fault m at, image′, list) ≡ finished l image list a
+      → image′ ≡ imageOr image a → (Fault m at, image′, list) ≡ finished passes l image list a
   tried-refused is (Fine t) e i = never (cc)
   tried-refused is (Fault n j) e i =
       let refuses = fault-is (sym (ap saysWritten is) ∙ e) in
@@ -26,8 +26,8 @@ module _ (l : List ℤ) (image : List ℕ) (list : List ℤ) {w : W.Written} {im
   -- the tries being fine: the list has the numbers, and c is how many they are
   pub tried-done : {from to c : ℕ} {list′ : List ℤ} → w ≡ written.Range from to → (a : AnswerAt Trying) → saysWritten w ≡ mapped rangeOf a
       → image′ ≡ imageOr image a → c ≡ length l → list′ ≡ onto list l
-      → (Fine (from, to, c), image′, list′) ≡ finished l image list a
+      → (Fine (from, to, c, passes), image′, list′) ≡ finished passes l image list a
   tried-done {from} {to} is (Fine t) e i count l-is =
       let both : _≡_ {A = ℕ × ℕ} (from, to) (rangeOf t) = fine-value (sym (ap saysWritten is) ∙ e) in
-      λ j. (Fine (both j .0, both j .1, count j), i j, l-is j)
+      λ j. (Fine (both j .0, both j .1, count j, passes), i j, l-is j)
   tried-done is (Fault n j) e i count l-is = never (cc)

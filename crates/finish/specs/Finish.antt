@@ -10,24 +10,25 @@ use Rattle.compares.specs.Compared.{builder}
 use Rattle.tries.specs.Tries.{Trying}
 use Rattle.tries.specs.Write.{writeOf}
 use Rattle.number_list.specs.Calls.{onto, gathered}
-use Rattle.finish.specs.declared.Ended as E
-use Rattle.finish.specs.declared.Ended.the-variants as cases
+use Rattle.finish.specs.declared.Built as B
+use Rattle.finish.specs.declared.Built.the-variants as cases
 
--- start, end, and how many numbers
-abbrev pub Ends : Type 0
-Ends = ℕ × ℕ × ℕ
+-- start, end, how many numbers, and passes
+abbrev pub Report : Type 0
+Report = ℕ × ℕ × ℕ × ℕ
 
-abbrev pub saysEnded : E.Ended → AnswerAt Ends
-saysEnded (cases.Range start end numbers) = Fine (start, end, numbers)
-saysEnded (cases.Refused n at) = Fault n at
+abbrev pub saysBuilt : B.Built → AnswerAt Report
+saysBuilt (cases.Finished start end numbers passes) = Fine (start, end, numbers, passes)
+saysBuilt (cases.Refused n at) = Fault n at
 
 -- l: the tape's numbers
-abbrev pub finished : (l : List ℤ) (image : List ℕ) (list : List ℤ) → AnswerAt Trying → AnswerAt Ends × List ℕ × List ℤ
-finished l image list (Fine t) = (Fine (t .page .pen .start, t .page .pen .end, length l), t .page .image, onto list l)
-finished l image list (Fault n at) = (Fault n at, image, list)
+abbrev pub finished : (passes : ℕ) (l : List ℤ) (image : List ℕ) (list : List ℤ) → AnswerAt Trying → AnswerAt Report × List ℕ × List ℤ
+finished passes l image list (Fine t) =
+    (Fine (t .page .pen .start, t .page .pen .end, length l, passes), t .page .image, onto list l)
+finished passes l image list (Fault n at) = (Fault n at, image, list)
 
 -- the call
-unfoldable pub finishOf : (tape nodes : List ℕ) → Numbers → (initial : ℕ) (image : List ℕ) (list : List ℤ)
-    → AnswerAt Ends × List ℕ × List ℤ
-finishOf tape nodes numbers initial image list =
-    finished (gathered tape (numbers .number)) image list (writeOf tape nodes numbers initial builder (length image))
+unfoldable pub finishOf : (tape nodes : List ℕ) → Numbers → (passes initial : ℕ) (image : List ℕ) (list : List ℤ)
+    → AnswerAt Report × List ℕ × List ℤ
+finishOf tape nodes numbers passes initial image list =
+    finished passes (gathered tape (numbers .number)) image list (writeOf tape nodes numbers initial builder (length image))

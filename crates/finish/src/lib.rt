@@ -3,14 +3,16 @@
 use tries::Written;
 use walk::Numbers;
 ghost use mathlib.Core.Path.{_≡_};
-ghost use Rattle.finish.specs.Finish.{finishOf, saysEnded};
+ghost use Rattle.finish.specs.Finish.{finishOf, saysBuilt};
 
-// Where what is written starts and ends, and how many numbers the list has; or the refusal.
-pub enum Ended {
-    Range {
+// A finished build: where what is written starts and ends, how many numbers the list has, and how many passes there were. Or the
+// refusal.
+pub enum Built {
+    Finished {
         start: usize,
         end: usize,
         numbers: usize,
+        passes: usize,
     },
     Refused {
         number: u8,
@@ -18,26 +20,28 @@ pub enum Ended {
     },
 }
 
-// Tries every statement with these numbers, by node; writes the image and the list if none is refused.
+// Tries every statement with the numbers, by node, of a layout after so many passes; writes the image and the list if none is refused.
 pub fn finish<'a>(
     tape: &'a [u8],
     nodes: &'a [u16],
     numbers: Numbers,
+    passes: usize,
     initial: usize,
     image: &mut [u8],
     list: &mut [i64],
-) -> Ended
-    ensures { λ r. ⌜ (saysEnded r, now (image .exit), now (list .exit))
-        ≡ finishOf (now (tape .entry)) (now (nodes .entry)) numbers initial (now (image .entry)) (now (list .entry)) ⌝ }
+) -> Built
+    ensures { λ r. ⌜ (saysBuilt r, now (image .exit), now (list .exit))
+        ≡ finishOf (now (tape .entry)) (now (nodes .entry)) numbers passes initial (now (image .entry)) (now (list .entry)) ⌝ }
 {
     match tries::write(tape, nodes, numbers, initial, compares::builder(), image) {
-        Written::Refused { number, at } => Ended::Refused { number, at },
+        Written::Refused { number, at } => Built::Refused { number, at },
         Written::Range { start, end } => {
             let count = number_list::gather(tape, &numbers.number, list);
-            Ended::Range {
+            Built::Finished {
                 start,
                 end,
                 numbers: count,
+                passes,
             }
         }
     }

@@ -24,9 +24,6 @@ enum-known-answer-2 c = search needs
 finish-requires : tie.Need-finish-requires
 finish-requires c κs = search needs
 
-said-requires : tie.Need-said-requires
-said-requires c κs = search needs
-
 same-length : tie.Need-same-length
 same-length c = search needs
 
@@ -56,7 +53,7 @@ same-length-4 c = search needs
 
 returns-2 : tie.Need-returns-2
 returns-2 c =
-    let ended = c .before .before .before .before in
+    let ended = c .before .before .before in
     let told = ended .before .before .before .before .before .before in
     let kept = told .before .before .before in
     let laid = kept .before in
@@ -66,7 +63,7 @@ returns-2 c =
     let nodes = args .nodes .now in
     let found = settled-after (told .answer2 .given .1) (layoutOf tape (args .initial) (length nodes)) (laid .lay-out .ensures .0) in (
       left-laid tape nodes (args .initial) (given .pre .1) (given .pre .4) (given .pre .0) found (laid .lay-out .ensures .1)
-          (args .image .now) (given .pre .2) (args .list .now) (given .pre .3) (c .said .ensures) (ended .finish .ensures),
+          (args .image .now) (given .pre .2) (args .list .now) (given .pre .3) (ended .finish .ensures),
       kept .nodes .given,
     )
 
@@ -79,7 +76,6 @@ build-laid-spec =
     refused-requires
     enum-known-answer-2
     finish-requires
-    said-requires
     same-length
     returns
     same-length-2

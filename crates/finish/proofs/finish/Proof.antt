@@ -40,7 +40,7 @@ returns c =
     let tape = args .tape .now in
     let image = args .image .now in
     let by = write-by tape (args .nodes .now) (args .t3) (args .initial) (length image) (made .builder .ensures) in
-    tried-refused (gathered tape (args .t3 .number)) image (args .list .now) (told .number .given .1)
+    tried-refused (args .passes) (gathered tape (args .t3 .number)) image (args .list .now) (told .number .given .1)
     (writeOf tape (args .nodes .now) (args .t3) (args .initial) builder (length image))
     (written .write .ensures .0 ∙ ap (mapped rangeOf) by) (written .write .ensures .1 ∙ ap (imageOr image) by)
 
@@ -61,7 +61,7 @@ returns-2 c =
     let tape = args .tape .now in
     let image = args .image .now in
     let by = write-by tape (args .nodes .now) (args .t3) (args .initial) (length image) (made .builder .ensures) in
-    tried-done (gathered tape (args .t3 .number)) image (args .list .now) (told .start .given .1)
+    tried-done (args .passes) (gathered tape (args .t3 .number)) image (args .list .now) (told .start .given .1)
     (writeOf tape (args .nodes .now) (args .t3) (args .initial) builder (length image))
     (written .write .ensures .0 ∙ ap (mapped rangeOf) by) (written .write .ensures .1 ∙ ap (imageOr image) by)
     (listed .gather .ensures .0) (listed .gather .ensures .1)
