@@ -9,7 +9,6 @@ ghost use mathlib.Core.Path.{_≡_};
 ghost use Prim.Native.Nat.{_≤_};
 ghost use lib.IntN.{pos};
 ghost use lib.ListN.{length, replicate};
-ghost use Rattle.refusals.specs.AnswerAt.{Fault};
 ghost use Rattle.pen.specs.Pens.{size};
 ghost use Rattle.edges.specs.Edges.{maxNodes};
 ghost use Rattle.form.specs.Form.{maxTape};
@@ -37,11 +36,14 @@ pub fn build(
         ≡ buildOf (now (tape .entry)) initial (memory (now (image .entry)) (now (numbers .entry)) (now (work .entry))) ⌝ }
 {
     if !is_allowed(tape.len(), initial, image.len(), numbers.len(), work.len()) {
-        return refused(ARGUMENT, 0);
+        return Built::Refused {
+            number: ARGUMENT,
+            at: 0,
+        };
     }
     number_list::clear(numbers);
     let built = build_laid(tape, initial, image, numbers, work);
-    zero_work(work);
+    lookup::clear(work);
     built
 }
 
@@ -64,24 +66,6 @@ fn is_allowed(tape: usize, initial: usize, image: usize, list: usize, work: usiz
     work == WORK
 }
 
-// A refusal.
-fn refused(number: u8, at: usize) -> Built
-    ensures { λ r. ⌜ saysBuilt r ≡ Fault number at ⌝ }
-{
-    Built::Refused { number, at }
-}
-
-// Makes every place of the work memory zero.
-fn zero_work(work: &mut [u16])
-    ensures { λ _. ⌜ now (work .exit) ≡ replicate (length (now (work .entry))) 0 ⌝ }
-{
-    let mut i: usize = 0;
-    while i < work.len() {
-        work[i] = 0;
-        i += 1;
-    }
-}
-
 // The build behind its arguments: the layout.
 fn build_laid(
     tape: &[u8],
@@ -99,7 +83,7 @@ fn build_laid(
     let settled = layout::lay_out(tape, initial, nodes);
     let answer = settled.answer;
     match answer {
-        Passes::Refused { number, at } => refused(number, at),
+        Passes::Refused { number, at } => Built::Refused { number, at },
         Passes::After(n) => {
             let numbers = settled.numbers;
             finish::finish(tape, nodes, numbers, n, initial, image, list)

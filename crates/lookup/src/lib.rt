@@ -5,6 +5,7 @@ use symbols::NODES;
 use symbols::WORDS;
 ghost use mathlib.Core.Path.{_≡_};
 ghost use Prim.Native.Nat.{_-_, _/_};
+ghost use lib.ListN.{length, replicate};
 ghost use Rattle.scopes.specs.Says.{saysFound};
 ghost use Rattle.lookup.specs.Lookup.{nodeOf};
 ghost use Rattle.lookup.specs.Notes.{noted, noteOf};
@@ -27,6 +28,17 @@ pub fn node_of(links: &[u16; WORDS], edges: usize, scope: u16, name: &[u8]) -> F
         little::u16_at(name, 8),
     ];
     scopes::query_edges(links, edges, scope, &path[..n])
+}
+
+// Makes every note zero.
+pub fn clear(nodes: &mut [u16])
+    ensures { λ _. ⌜ now (nodes .exit) ≡ replicate (length (now (nodes .entry))) 0 ⌝ }
+{
+    let mut i: usize = 0;
+    while i < nodes.len() {
+        nodes[i] = 0;
+        i += 1;
+    }
 }
 
 // The node of a record that is a name, noted at its offset, if there is room for it.

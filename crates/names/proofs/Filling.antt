@@ -74,10 +74,6 @@ module _ {tape links : List ℕ} {w : Walk} {at : ℕ} (f : Filling tape links w
         nested-scope links (f .s .names) (f .s .around) (f .held .nested),
       )
 
-  -- the memory is as long as it was
-  pub as-long : {zeros : List ℕ} → zeros ≡ replicate 6144 0 → length links ≡ length zeros
-  as-long e = f .held .size ∙ sym (ap length e ∙ length-replicate {A = ℕ} 6144 0)
-
   ends : statementsAt tape at ≡ [] → Fine (tableOf links (w .names)) ≡ declaredOn tape
   unfolding declaredOn
   ends none-left =

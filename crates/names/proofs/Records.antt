@@ -1,7 +1,7 @@
 -- What the private functions make of one record, each by its cases. Assumes nothing.
 use mathlib.Core.Bool.{Bool, true, false}
 use mathlib.Core.List.{List}
-use mathlib.Core.Path.{_≡_, refl, ap, _∙_}
+use mathlib.Core.Path.{_≡_, refl, sym, ap, _∙_}
 use Prim.Native.Nat.{ℕ, zero, suc, _+_, _*_, _-_, _≤_, _<_}
 use native.Mathlib.Omega.{arith}
 use lib.ListN.{length, getD, set}
@@ -9,7 +9,11 @@ use borrow.Author.Tests.{eq-eqb, ne-eqb, lt-ltb, le-ltb}
 use Rattle.refusals.specs.Table.{noRoom, nameTaken}
 use Rattle.little.specs.Little.{numberAt}
 use Rattle.edges.proofs.Laws as laws
-use Rattle.edges.specs.Edges.{childOf, edgesIn, edgeAt}
+use Rattle.edges.specs.Edges.{maxEdges, childOf, held}
+use Rattle.edges.specs.Says.{saysReached}
+use Rattle.edges.specs.declared.Edge.{Edge}
+use Rattle.edges.specs.declared.Reached.{Reached}
+use Rattle.edges.specs.declared.Reached.the-variants as reached
 use Rattle.tape.specs.Kinds.{openScope, closeScope}
 use Rattle.form.specs.Form.{declares}
 use Rattle.names.specs.declared.Walk.{Walk}
@@ -46,26 +50,19 @@ module _ (links : List ℕ) (w : Walk) (r : List ℕ) {k : ℕ} (is : k ≡ getD
       unfolding walkAfter
       behind-other e = rw (← is, ne-eqb k openScope o, ne-eqb k closeScope c, ← told, e)
 
--- ---- whether its id is taken: of i edges the last is number i - 1
+-- ---- whether its id is taken
 
-module _ (links : List ℕ) (i : ℕ) (h : 0 < i) (s x : ℕ) where
-  pub taken-here : getD links (3 * (i - 1)) 0 ≡ s → getD links (3 * (i - 1) + 1) 0 ≡ x → takenIn links i s x ≡ true
-  unfolding takenIn edgeAt
-  taken-here p q = ap isSome (laws.child-here links i h refl p q)
+-- by n edges: it is where the look-up among them reaches a node
+module _ (links : List ℕ) (n s x : ℕ) (few : n ≤ maxEdges) where
+  look-up : (r : Reached) → saysReached r ≡ childOf (held links n) s x → isSome (saysReached r) ≡ takenIn links n s x
+  unfolding takenIn
+  look-up r told = ap isSome told ∙ ap (λ (es : List Edge). isSome (childOf es s x)) (laws.all-held links n few)
 
-  pub taken-other : (getD links (3 * (i - 1)) 0 ≡ s → ⊥) → takenIn links i s x ≡ takenIn links (i - 1) s x
-  unfolding takenIn edgeAt
-  taken-other p = ap isSome (laws.child-other links i h refl s x p)
+  pub taken-reached : {r : Reached} {to : ℕ} → r ≡ reached.At to → saysReached r ≡ childOf (held links n) s x → true ≡ takenIn links n s x
+  taken-reached {r} is told = sym (ap (λ (y : Reached). isSome (saysReached y)) is) ∙ look-up r told
 
-  pub taken-unnamed : getD links (3 * (i - 1)) 0 ≡ s → (getD links (3 * (i - 1) + 1) 0 ≡ x → ⊥)
-      → takenIn links i s x ≡ takenIn links (i - 1) s x
-  unfolding takenIn edgeAt
-  taken-unnamed p q = ap isSome (laws.child-unnamed links i h refl p q)
-
-pub taken-none : (links : List ℕ) (i s x : ℕ) → i ≤ 0 → takenIn links i s x ≡ false
-unfolding takenIn edgesIn childOf
-taken-none links zero s x h = refl
-taken-none links (suc i) s x h = absurd (omega arith)
+  pub taken-nothing : {r : Reached} → r ≡ reached.Nothing → saysReached r ≡ childOf (held links n) s x → false ≡ takenIn links n s x
+  taken-nothing {r} is told = sym (ap (λ (y : Reached). isSome (saysReached y)) is) ∙ look-up r told
 
 -- ---- its refusal, and its edge
 

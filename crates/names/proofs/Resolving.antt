@@ -56,7 +56,6 @@ few-after links s x few edge = go (isSome (idOf x)) (names-after s x) edge
 pub record Resolving (tape links : List ℕ) (edges : ℕ) (first nodes : List ℕ) (w : Walk) (at : ℕ) : Type 0 where
   pub s : Scopes
   pub p : Pending
-  pub size : length links ≡ 6144
   pub few : s .names + 1 ≤ 1024
   pub nested : Nested links (s .names) (s .around)
   pub written : Written links s (statementsAt tape at)
@@ -75,7 +74,6 @@ resolve-start tape links edges nodes form declared e =
     record {
       s = outermost;
       p = begin false;
-      size = ap length (sym words) ∙ run .2 .good .size;
       few = omega arith;
       nested = tt;
       written = subst (λ (l : List ℕ). Written l outermost (statements tape)) words (run .2 .written);
@@ -152,7 +150,6 @@ module _ {tape links : List ℕ} {edges : ℕ} {first nodes : List ℕ} {w : Wal
               record {
                 s = f .s;
                 p = after (f .p) here;
-                size = f .size;
                 few = f .few;
                 nested = f .nested;
                 written = subst (Written links (f .s)) same (f .written);
@@ -169,7 +166,6 @@ module _ {tape links : List ℕ} {edges : ℕ} {first nodes : List ℕ} {w : Wal
               record {
                 s = next;
                 p = after (f .p) here;
-                size = f .size;
                 few = few-after links (f .s) (whatOf here) (f .few) (edges-on .0);
                 nested = nested-after links (f .s) (whatOf here) (f .nested) (λ is. edges-on .0 is .1);
                 written = edges-on .1;

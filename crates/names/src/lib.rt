@@ -1,5 +1,6 @@
 // The names of a tape: scopes, labels and constants are declared in tape order, and only then is each name record resolved, from the
 // scope in which it stands. Declaration k is node k, and its edge, edge k - 1, leaves the scope around it.
+use edges::Reached;
 use form::LONGEST;
 use refusals::ARGUMENT;
 use refusals::NAME_TAKEN;
@@ -14,6 +15,7 @@ ghost use mathlib.Core.Path.{_≡_};
 ghost use Prim.Native.Nat.{_+_, _*_, _≤_, _<_};
 ghost use lib.ListN.{length, replicate};
 ghost use Rattle.refusals.specs.AnswerAt.{Fine, Fault};
+ghost use Rattle.edges.specs.Edges.{maxEdges};
 ghost use Rattle.form.specs.Form.{tapeForm};
 ghost use Rattle.lookup.specs.Notes.{notesOf};
 ghost use Rattle.names.specs.Scopes.{scopeAt};
@@ -91,7 +93,7 @@ fn declare_sound(tape: &[u8], nodes: &mut [u16]) -> Declared
 }
 
 // Writes the edges of all declarations, in tape order.
-fn fill(tape: &[u8], links: &mut [u16]) -> Filled
+fn fill(tape: &[u8], links: &mut [u16; WORDS]) -> Filled
     requires { ⌜ (tapeForm (now tape) ≡ Fine tt) × (now links ≡ replicate 6144 0) ⌝ }
     ensures { λ r. ⌜ tabled (now (links .exit)) (saysFilled r) ≡ declaredOn (now (tape .entry)) ⌝ }
 {
@@ -133,8 +135,8 @@ fn resolve<'a>(tape: &'a [u8], links: &'a [u16; WORDS], edges: usize, nodes: &mu
 }
 
 // The refusal that a record brings, or 0: its id is in the scope already, or there is no room for it.
-fn fault_of(links: &[u16], walk: Walk, rec: &[u8]) -> u8
-    requires { ⌜ 3 * walk .names ≤ length (now links) ⌝ }
+fn fault_of(links: &[u16; WORDS], walk: Walk, rec: &[u8]) -> u8
+    requires { ⌜ walk .names ≤ maxEdges ⌝ }
     ensures { λ r. ⌜ r ≡ faultOf (now (links .entry)) walk (now (rec .entry)) ⌝ }
 {
     if !form::declares(little::u8_at(rec, 0)) {
@@ -147,26 +149,19 @@ fn fault_of(links: &[u16], walk: Walk, rec: &[u8]) -> u8
 }
 
 // Whether one of the first n edges leaves the scope by this id.
-fn is_taken(links: &[u16], n: usize, scope: u16, id: u16) -> bool
-    requires { ⌜ 3 * n ≤ length (now links) ⌝ }
+fn is_taken(links: &[u16; WORDS], n: usize, scope: u16, id: u16) -> bool
+    requires { ⌜ n ≤ maxEdges ⌝ }
     ensures { λ r. ⌜ r ≡ takenIn (now (links .entry)) n scope id ⌝ }
 {
-    let mut i = n;
-    while 0 < i {
-        i -= 1;
-        let at = WIDTH * i;
-        if links[at] == scope {
-            if links[at + 1] == id {
-                return true;
-            }
-        }
+    match edges::child(links, n, scope, id) {
+        Reached::At(_) => true,
+        Reached::Nothing => false,
     }
-    false
 }
 
 // Writes the edge of the name that a record declares, if it declares one.
-fn put(links: &mut [u16], walk: Walk, rec: &[u8])
-    requires { ⌜ (3 * walk .names + 3 ≤ length (now links)) × (walk .names + 1 < 65536) ⌝ }
+fn put(links: &mut [u16; WORDS], walk: Walk, rec: &[u8])
+    requires { ⌜ (walk .names < maxEdges) × (3 * walk .names + 3 ≤ length (now links)) ⌝ }
     ensures { λ _. ⌜ now (links .exit) ≡ edgesAfter (now (links .entry)) walk (now (rec .entry)) ⌝ }
 {
     if form::declares(little::u8_at(rec, 0)) {
@@ -178,8 +173,8 @@ fn put(links: &mut [u16], walk: Walk, rec: &[u8])
 }
 
 // Behind a record.
-fn behind(links: &[u16], walk: Walk, rec: &[u8]) -> Walk
-    requires { ⌜ (walk .names + 1 < 65536) × (3 * walk .scope ≤ length (now links)) ⌝ }
+fn behind(links: &[u16; WORDS], walk: Walk, rec: &[u8]) -> Walk
+    requires { ⌜ (walk .names < maxEdges) × (walk .scope ≤ maxEdges) ⌝ }
     ensures { λ r. ⌜ r ≡ walkAfter (now (links .entry)) walk (now (rec .entry)) ⌝ }
 {
     let kind = little::u8_at(rec, 0);
@@ -206,8 +201,8 @@ fn behind(links: &[u16], walk: Walk, rec: &[u8]) -> Walk
 }
 
 // The scope around a scope; around the root, the root.
-fn around(links: &[u16], scope: u16) -> u16
-    requires { ⌜ 3 * scope ≤ length (now links) ⌝ }
+fn around(links: &[u16; WORDS], scope: u16) -> u16
+    requires { ⌜ scope ≤ maxEdges ⌝ }
     ensures { λ r. ⌜ r ≡ enclosing (now (links .entry)) scope ⌝ }
 {
     if scope == 0 {

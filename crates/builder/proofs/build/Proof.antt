@@ -16,16 +16,10 @@ use Rattle.builder.proofs.build.Tie as tie
 is-allowed-requires : tie.Need-is-allowed-requires
 is-allowed-requires c κs = search needs
 
-refused-requires : tie.Need-refused-requires
-refused-requires c κs = search needs
-
 returns : tie.Need-returns
 unfolding buildOf
 returns c =
-    let tested = c .before in
-    let args = tested .before .before .before .before .before .args in
-    let m = memory (args .image .now) (args .numbers .now) (args .work .now) in
-    (λ i. (c .refused .ensures i, m)) ∙ stopped _ _ (tested .before .is-allowed .ensures) (tested .if1 .taken)
+    stopped _ _ (c .before .is-allowed .ensures) (c .if1 .taken)
 
 clear-requires : tie.Need-clear-requires
 clear-requires c κs = search needs
@@ -38,8 +32,8 @@ build-laid-requires c κs =
     let fine = allowed _ _ _ _ _ (granted (tested .before .is-allowed .ensures) (tested .if1 .left)) in
     (fine .tape, fine .initial, fine .image, zeroed .clear .ensures ∙ ap (λ (n : ℕ). replicate n (pos 0)) (fine .list), fine .work)
 
-zero-work-requires : tie.Need-zero-work-requires
-zero-work-requires c κs = search needs
+clear-requires-2 : tie.Need-clear-requires-2
+clear-requires-2 c κs = search needs
 
 same-length : tie.Need-same-length
 same-length c = search needs
@@ -63,7 +57,7 @@ returns-2 c =
     let told = built .build-laid .ensures in
     let m = memory (args .image .now) (args .numbers .now) (args .work .now) in
     let zero = zeroed .clear .ensures ∙ ap (λ (n : ℕ). replicate n (pos 0)) (fine .list) in
-    let work = worked .zero-work .ensures ∙ ap (λ (n : ℕ). replicate n 0) (told .1 ∙ fine .work) in
+    let work = worked .clear2 .ensures ∙ ap (λ (n : ℕ). replicate n 0) (told .1 ∙ fine .work) in
     left-all m _ zero (Build.built (args .tape .now) (origin (args .initial))) (told .0) work
     ∙ at-true (left m (Build.built (args .tape .now) (origin (args .initial)))) _ is
 
@@ -72,11 +66,10 @@ build-spec =
     tie.close
     (tie.spec
     is-allowed-requires
-    refused-requires
     returns
     clear-requires
     build-laid-requires
-    zero-work-requires
+    clear-requires-2
     same-length
     same-length-2
     same-length-3

@@ -1,4 +1,5 @@
 -- The layout settles, or is refused; then the tries. Assumes nothing.
+use mathlib.Core.Path.{refl}
 use lib.ListN.{length}
 use Rattle.walk.specs.Walk.{origin}
 use Rattle.layout.specs.Layout.{layoutOf}
@@ -15,9 +16,6 @@ lay-out-requires c κs = search needs
 enum-known-answer : tie.Need-enum-known-answer
 enum-known-answer c = search needs
 
-refused-requires : tie.Need-refused-requires
-refused-requires c κs = search needs
-
 enum-known-answer-2 : tie.Need-enum-known-answer-2
 enum-known-answer-2 c = search needs
 
@@ -29,7 +27,7 @@ same-length c = search needs
 
 returns : tie.Need-returns
 returns c =
-    let told = c .before .before in
+    let told = c .before in
     let kept = told .before .before .before in
     let laid = kept .before in
     let given = laid .before .before .before .before .before in
@@ -38,7 +36,7 @@ returns c =
     let nodes = args .nodes .now in
     let refuses = settled-refused (told .answer .given .1) (layoutOf tape (args .initial) (length nodes)) (laid .lay-out .ensures .0) in
     let stopped = laid-refused tape nodes (args .initial) (given .pre .1) (given .pre .4) refuses in (
-      left-refused (args .image .now) (args .list .now) (built tape (origin (args .initial))) stopped (c .refused .ensures),
+      left-refused (args .image .now) (args .list .now) (built tape (origin (args .initial))) stopped refl,
       kept .nodes .given,
     )
 
@@ -73,7 +71,6 @@ build-laid-spec =
     (tie.spec
     lay-out-requires
     enum-known-answer
-    refused-requires
     enum-known-answer-2
     finish-requires
     same-length

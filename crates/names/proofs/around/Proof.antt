@@ -16,8 +16,8 @@ mul-result c = search needs
 mul-result-2 : tie.Need-mul-result-2
 mul-result-2 c = search needs
 
-shared-slice-read-result : tie.Need-shared-slice-read-result
-shared-slice-read-result c = search needs
+element-copy-out-result : tie.Need-element-copy-out-result
+element-copy-out-result c = search needs
 
 returns-2 : tie.Need-returns-2
 returns-2 c = around-below _ _ (c .before .if1 .left)
@@ -30,5 +30,5 @@ around-spec =
     sub-result
     mul-result
     mul-result-2
-    shared-slice-read-result
+    element-copy-out-result
     returns-2)

@@ -4,7 +4,7 @@ use Prim.Native.Nat.{_+_, _-_, _≤_, _<_}
 use denote.Ref.{now}
 use native.Mathlib.Omega.{arith}
 use lib.ListN.{length}
-use Rattle.names.proofs.Filling.{Filling, fill-start, few-names, few-scopes, fill-past, fill-last, as-long, fill-refused, fill-on}
+use Rattle.names.proofs.Filling.{Filling, fill-start, few-names, few-scopes, fill-past, fill-last, fill-refused, fill-on}
 use Rattle.names.proofs.Nesting.{next-within}
 use borrow.Author.Needs.{needs}
 use Rattle.names.proofs.fill.Statement.{statement}
@@ -17,16 +17,13 @@ abbrev μ-loop : tie.MeasureT-loop
 μ-loop tape links₀ walk₀ at₀ links walk at = length tape - at
 
 loop-holds : tie.Need-loop-holds Inv-loop μ-loop
-loop-holds c = let at-entry = c .before .before in fill-start _ (at-entry .pre .0) (at-entry .pre .1) refl
+loop-holds c = let at-entry = c .before in fill-start _ (at-entry .pre .0) (at-entry .pre .1) refl
 
 record-requires : tie.Need-record-requires Inv-loop μ-loop
 record-requires c κs = search needs
 
 is-last-requires : tie.Need-is-last-requires Inv-loop μ-loop
 is-last-requires c κs = search needs
-
-same-length : tie.Need-same-length Inv-loop μ-loop
-same-length c = let at-loop = c .before .before .before .before in as-long (at-loop .loop .inv) (at-loop .before .before .before .pre .1)
 
 returns : tie.Need-returns Inv-loop μ-loop
 returns c =
@@ -36,12 +33,7 @@ returns c =
 fault-of-requires : tie.Need-fault-of-requires Inv-loop μ-loop
 fault-of-requires c κs =
     let at-loop = c .before .before .before .before .before in
-    omega (arith, few-names (at-loop .loop .inv), at-loop .loop .inv .held .size)
-
-same-length-2 : tie.Need-same-length-2 Inv-loop μ-loop
-same-length-2 c =
-    let at-loop = c .before .before .before .before .before .before .before in
-    as-long (at-loop .loop .inv) (at-loop .before .before .before .pre .1)
+    omega (arith, few-names (at-loop .loop .inv))
 
 returns-2 : tie.Need-returns-2 Inv-loop μ-loop
 returns-2 c =
@@ -55,23 +47,22 @@ put-requires : tie.Need-put-requires Inv-loop μ-loop
 put-requires c κs =
     let at-loop = c .before .before .before .before .before .before .before .before in
     let few = few-names (at-loop .loop .inv) in
-    (omega (arith, at-loop .loop .inv .held .size), omega arith)
+    (omega arith, omega (arith, at-loop .loop .inv .held .size))
 
 behind-requires : tie.Need-behind-requires Inv-loop μ-loop
 behind-requires c κs =
-    let stored = c .before .before in
-    let at-loop = stored .before .before .before .before .before .before .before .before .before .before in
+    let at-loop = c .before .before .before .before .before .before .before .before .before .before in
     let few = few-names (at-loop .loop .inv) in
-    (omega arith, omega (arith, few-scopes (at-loop .loop .inv), stored .links .given, at-loop .loop .inv .held .size))
+    (omega arith, omega (arith, few-scopes (at-loop .loop .inv)))
 
 -- a record that was passed lies within the tape
 within : (c : tie.After-behind Inv-loop μ-loop)
-    → let found = c .before .before .before .before .before .before .before .before .before .before .before in
+    → let found = c .before .before .before .before .before .before .before .before .before in
     let at-loop = found .before .before in
-    let tape = now (at-loop .before .before .before .args .tape) in
+    let tape = now (at-loop .before .before .args .tape) in
     (0 < length (now (found .«record» .result))) × (at-loop .loop .at + length (now (found .«record» .result)) ≤ length tape)
 within c =
-    let more = c .before .before .before .before .before .before .before .before .before in
+    let more = c .before .before .before .before .before .before .before in
     let found = more .before .before in
     let not-last = sym (more .before .is-last .ensures) ∙ more .if1 .left in
     next-within _ _ (found .«record» .ensures) not-last (found .before .loop-test .taken)
@@ -84,7 +75,7 @@ loop-less c = omega (arith, within c .0, within c .1)
 
 loop-again : tie.Need-loop-again Inv-loop μ-loop
 loop-again c =
-    let put = c .before .before .before .before in
+    let put = c .before .before in
     let accepted = put .before .before in
     let asked = accepted .before in
     let more = asked .before .before in
@@ -92,9 +83,6 @@ loop-again c =
     let not-last = sym (more .before .is-last .ensures) ∙ more .if1 .left in
     fill-on (found .before .before .loop .inv) (found .«record» .ensures) not-last (asked .fault-of .ensures) (accepted .if2 .left)
     (put .put .ensures) (c .behind .ensures)
-
-same-length-3 : tie.Need-same-length-3 Inv-loop μ-loop
-same-length-3 c = as-long (c .before .loop .inv) (c .before .before .before .before .pre .1)
 
 returns-3 : tie.Need-returns-3 Inv-loop μ-loop
 returns-3 c = fill-past (c .before .loop .inv) (c .loop-test .left)
@@ -108,15 +96,12 @@ fill-spec =
     loop-holds
     record-requires
     is-last-requires
-    same-length
     returns
     fault-of-requires
-    same-length-2
     returns-2
     put-requires
     behind-requires
     add-at
     loop-less
     loop-again
-    same-length-3
     returns-3)

@@ -1,6 +1,5 @@
 -- Three words behind those of all edges, or nothing. Assumes nothing.
 use Rattle.names.proofs.Records.{put-none, put-edge}
-use lib.ListN.{length-set}
 use native.Mathlib.Omega.{arith}
 use borrow.Author.Needs.{needs}
 use Rattle.names.proofs.put.Statement.{statement}
@@ -18,8 +17,8 @@ mul-at c = search needs
 mul-links : tie.Need-mul-links
 mul-links c = search needs
 
-slice-write-links : tie.Need-slice-write-links
-slice-write-links c = search needs
+element-write-links : tie.Need-element-write-links
+element-write-links c = search needs
 
 u16-at-requires : tie.Need-u16-at-requires
 u16-at-requires c κs = search needs
@@ -30,8 +29,8 @@ add-links c = search needs
 mul-links-2 : tie.Need-mul-links-2
 mul-links-2 c = search needs
 
-slice-write-links-2 : tie.Need-slice-write-links-2
-slice-write-links-2 c = simp length-set (omega arith)
+element-write-links-2 : tie.Need-element-write-links-2
+element-write-links-2 c = search needs
 
 add-links-2 : tie.Need-add-links-2
 add-links-2 c = search needs
@@ -45,11 +44,8 @@ add-links-3 c = search needs
 mul-links-3 : tie.Need-mul-links-3
 mul-links-3 c = search needs
 
-slice-write-links-3 : tie.Need-slice-write-links-3
-slice-write-links-3 c = simp length-set (omega arith)
-
-same-length : tie.Need-same-length
-same-length c = search needs
+element-write-links-3 : tie.Need-element-write-links-3
+element-write-links-3 c = search needs
 
 returns : tie.Need-returns
 returns c =
@@ -69,16 +65,15 @@ put-spec =
     declares-requires
     mul-at
     mul-links
-    slice-write-links
+    element-write-links
     u16-at-requires
     add-links
     mul-links-2
-    slice-write-links-2
+    element-write-links-2
     add-links-2
     cast-links
     add-links-3
     mul-links-3
-    slice-write-links-3
-    same-length
+    element-write-links-3
     returns
     returns-2)

@@ -40,18 +40,18 @@ note-requires c κs = search needs
 
 behind-requires : tie.Need-behind-requires Inv-loop μ-loop
 behind-requires c κs =
-    let inv = c .before .before .before .before .before .before .before .before .before .loop .inv in
+    let inv = c .before .before .before .before .before .before .before .before .loop .inv in
     let few = few-names inv in
-    (omega arith, omega (arith, few-scopes inv, inv .size))
+    (omega arith, omega (arith, few-scopes inv))
 
 -- a record that was passed lies within the tape
 within : (c : tie.After-behind Inv-loop μ-loop)
-    → let found = c .before .before .before .before .before .before .before .before in
+    → let found = c .before .before .before .before .before .before .before in
     let at-loop = found .before .before in
     let tape = now (at-loop .before .before .before .args .tape) in
     (0 < length (now (found .«record» .result))) × (at-loop .loop .at + length (now (found .«record» .result)) ≤ length tape)
 within c =
-    let more = c .before .before .before .before .before .before in
+    let more = c .before .before .before .before .before in
     let found = more .before .before in
     let not-last = sym (more .before .is-last .ensures) ∙ more .if1 .left in
     next-within _ _ (found .«record» .ensures) not-last (found .before .loop-test .taken)
@@ -64,7 +64,7 @@ loop-less c = omega (arith, within c .0, within c .1)
 
 loop-again : tie.Need-loop-again Inv-loop μ-loop
 loop-again c =
-    let noted = c .before .before .before .before in
+    let noted = c .before .before .before in
     let more = noted .before .before in
     let found = more .before .before in
     let turn = found .before in
