@@ -7,13 +7,11 @@ use lib.Dec.{leb}
 use lib.IntN.{ℤ}
 use lib.ListN.{length}
 use Rattle.refusals.specs.Answer.{pick}
-use Rattle.refusals.specs.AnswerAt.{AnswerAt, Fine, Fault}
+use Rattle.refusals.specs.AnswerAt.{AnswerAt, Fault}
 use Rattle.refusals.specs.Table.{argument}
 use Rattle.pen.specs.Pens.{size}
 use Rattle.form.specs.Form.{maxTape}
 use Rattle.walk.specs.Walk.{origin}
-use Rattle.checker.specs.declared.Checked as C
-use Rattle.checker.specs.declared.Checked.the-variants as cases
 use Rattle.checker.specs.Check.{checked}
 
 -- "tape and covered bytes are at most 65,536 long, initial place and start at most 65,536"
@@ -26,7 +24,3 @@ checkOf tape initial numbers start bytes =
     pick (isAllowed (length tape) initial start (length bytes))
     (checked tape (origin initial) numbers start bytes)
     (Fault argument 0)
-
-abbrev pub saysChecked : C.Checked → AnswerAt (Unit {0})
-saysChecked cases.Accepted = Fine tt
-saysChecked (cases.Refused n at) = Fault n at

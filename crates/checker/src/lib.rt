@@ -4,11 +4,11 @@ use form::LONGEST;
 use refusals::ARGUMENT;
 use refusals::NUMBER_DIFFERS;
 use refusals::OutcomeAt;
+pub use verdict::Checked;
 ghost use mathlib.Core.Path.{_≡_};
 ghost use Prim.Native.Nat.{_≤_, _<_};
 ghost use lib.ListN.{length};
 ghost use Rattle.refusals.specs.AnswerAt.{Fault};
-ghost use Rattle.refusals.specs.Says.{saysAt};
 ghost use Rattle.pen.specs.Pens.{size};
 ghost use Rattle.edges.specs.Edges.{maxNodes};
 ghost use Rattle.form.specs.Form.{maxTape};
@@ -16,17 +16,12 @@ ghost use Rattle.form.specs.Statements.{statements};
 ghost use Rattle.walk.specs.Walk.{origin};
 ghost use Rattle.walk.specs.Values.{declarations};
 ghost use Rattle.walk.specs.Numbers.{readsNoted};
+ghost use Rattle.verdict.specs.Verdict.{saysChecked};
 ghost use Rattle.checker.specs.Check.{checkedBy};
-ghost use Rattle.checker.specs.Call.{isAllowed, checkOf, saysChecked};
+ghost use Rattle.checker.specs.Call.{isAllowed, checkOf};
 
 // The greatest place; also how many bytes are checked at most.
 const SIZE: usize = 65536;
-
-// The verdict.
-pub enum Checked {
-    Accepted,
-    Refused { number: u8, at: usize },
-}
 
 // Whether numbers, one for each label and constant in tape order, a start and the covered bytes fit a tape from an initial place.
 pub fn check<'a>(
@@ -92,15 +87,5 @@ fn check_numbers<'a>(
         return refused(NUMBER_DIFFERS, 0);
     }
     let by_node = spread.numbers;
-    said(verdict::judge(tape, nodes, by_node, initial, start, bytes))
-}
-
-// An outcome, said as an answer of this call.
-fn said(outcome: OutcomeAt) -> Checked
-    ensures { λ r. ⌜ saysChecked r ≡ saysAt outcome ⌝ }
-{
-    match outcome {
-        OutcomeAt::Done => Checked::Accepted,
-        OutcomeAt::Refused { number, at } => Checked::Refused { number, at },
-    }
+    verdict::judge(tape, nodes, by_node, initial, start, bytes)
 }

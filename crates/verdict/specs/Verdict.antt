@@ -14,6 +14,8 @@ use Rattle.walk.specs.Values.{same}
 use Rattle.compares.specs.Compared.{checker}
 use Rattle.tries.specs.Tries.{Trying}
 use Rattle.tries.specs.Write.{writeOf}
+use Rattle.verdict.specs.declared.Checked as C
+use Rattle.verdict.specs.declared.Checked.the-variants as cases
 
 -- ---- what was written, judged
 
@@ -31,6 +33,10 @@ unfoldable pub judged : ℕ → List ℕ → Trying → AnswerAt (Unit {0})
 judged start bytes t = pick (isWritten start bytes t) (Fine tt) (Fault bytesDiffer 0)
 
 -- ---- the call
+
+abbrev pub saysChecked : C.Checked → AnswerAt (Unit {0})
+saysChecked cases.Accepted = Fine tt
+saysChecked (cases.Refused n at) = Fault n at
 
 -- the tries of a tape whose names have been resolved, with numbers by node, and what they wrote
 unfoldable pub verdictOf : (tape nodes : List ℕ) → Numbers → (initial start : ℕ) (bytes : List ℕ) → AnswerAt (Unit {0})

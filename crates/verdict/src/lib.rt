@@ -1,7 +1,6 @@
 // The verdict on numbers, a start and bytes, from anyone, for a tape whose names have been resolved: each statement is tried once with
 // these numbers, and what is written is compared.
 use refusals::BYTES_DIFFER;
-use refusals::OutcomeAt;
 use tries::Written;
 use walk::Numbers;
 ghost use mathlib.Core.Bool.{_&&_};
@@ -11,13 +10,18 @@ ghost use lib.Dec.{eqb};
 ghost use lib.ListN.{length};
 ghost use Rattle.refusals.specs.Answer.{pick};
 ghost use Rattle.refusals.specs.AnswerAt.{Fine, Fault};
-ghost use Rattle.refusals.specs.Says.{saysAt};
 ghost use Rattle.refusals.specs.Table.{bytesDiffer};
 ghost use Rattle.walk.specs.Values.{same};
-ghost use Rattle.verdict.specs.Verdict.{covered, verdictOf};
+ghost use Rattle.verdict.specs.Verdict.{covered, verdictOf, saysChecked};
 
 // How many bytes an image has.
 const SIZE: usize = 65536;
+
+// The verdict.
+pub enum Checked {
+    Accepted,
+    Refused { number: u8, at: usize },
+}
 
 // Whether every statement passes with these numbers, by node, and the tape then writes these bytes from this start.
 pub fn judge<'a>(
@@ -27,8 +31,8 @@ pub fn judge<'a>(
     initial: usize,
     start: usize,
     bytes: &'a [u8],
-) -> OutcomeAt
-    ensures { λ r. ⌜ saysAt r
+) -> Checked
+    ensures { λ r. ⌜ saysChecked r
         ≡ verdictOf (now (tape .entry)) (now (nodes .entry)) numbers initial start (now (bytes .entry)) ⌝ }
 {
     let mut image = [0u8; SIZE];
@@ -46,29 +50,23 @@ pub fn judge<'a>(
 }
 
 // A refusal.
-fn refused(number: u8, at: usize) -> OutcomeAt
-    ensures { λ r. ⌜ saysAt r ≡ Fault number at ⌝ }
+fn refused(number: u8, at: usize) -> Checked
+    ensures { λ r. ⌜ saysChecked r ≡ Fault number at ⌝ }
 {
-    OutcomeAt::Refused { number, at }
+    Checked::Refused { number, at }
 }
 
 // Start, length and bytes against what is written: the image from `first` to `end`.
-fn compare<'a>(
-    image: &'a [u8],
-    first: usize,
-    end: usize,
-    start: usize,
-    bytes: &'a [u8],
-) -> OutcomeAt
+fn compare<'a>(image: &'a [u8], first: usize, end: usize, start: usize, bytes: &'a [u8]) -> Checked
     requires { ⌜ (first ≤ end) × (end ≤ length (now image)) ⌝ }
-    ensures { λ r. ⌜ saysAt r
+    ensures { λ r. ⌜ saysChecked r
         ≡ pick (eqb start first && same eqb (now (bytes .entry)) (covered first end (now (image .entry)))) (Fine tt) (Fault bytesDiffer 0) ⌝ }
 {
     if start != first {
         return refused(BYTES_DIFFER, 0);
     }
     if page::is_same(bytes, &image[first..end]) {
-        OutcomeAt::Done
+        Checked::Accepted
     } else {
         refused(BYTES_DIFFER, 0)
     }

@@ -24,18 +24,14 @@ returns c =
 judge-requires : tie.Need-judge-requires
 judge-requires c κs = tt
 
-said-requires : tie.Need-said-requires
-said-requires c κs = tt
-
 returns-2 : tie.Need-returns-2
 returns-2 c =
-    let fitting = c .before .before .before in
+    let fitting = c .before .before in
     let spread = fitting .before .before in
     let given = spread .before .before .before .before in
     let args = given .args in
     let told = spread-told (args .tape .now) (args .numbers .now) (spread .spread .ensures) (given .pre .2) in
-    c .said .ensures
-    ∙ c .before .judge .ensures
+    c .judge .ensures
     ∙ numbers-judged (args .tape .now) (args .nodes .now) (args .initial) (args .numbers .now) (args .start) (args .bytes .now) (given .pre)
     told (fitting .if1 .left)
 
@@ -47,5 +43,4 @@ check-numbers-spec =
     refused-requires
     returns
     judge-requires
-    said-requires
     returns-2)
