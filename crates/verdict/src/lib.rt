@@ -60,7 +60,8 @@ fn refused(number: u8, at: usize) -> Checked
 fn compare<'a>(image: &'a [u8], first: usize, end: usize, start: usize, bytes: &'a [u8]) -> Checked
     requires { ⌜ (first ≤ end) × (end ≤ length (now image)) ⌝ }
     ensures { λ r. ⌜ saysChecked r
-        ≡ pick (eqb start first && same eqb (now (bytes .entry)) (covered first end (now (image .entry)))) (Fine tt) (Fault bytesDiffer 0) ⌝ }
+        ≡ pick (eqb start first && same eqb (now (bytes .entry)) (covered first end (now (image .entry))))
+        (Fine tt) (Fault bytesDiffer 0) ⌝ }
 {
     if start != first {
         return refused(BYTES_DIFFER, 0);

@@ -16,7 +16,8 @@ returns c =
     let args = tested .before .before .before .args in
     let tape = args .tape .now in
     let nodes = args .nodes .now in
-    (c .unsettled .ensures ∙ ap left (far-refused tape (args .initial) (tested .if1 .taken) _), far-notes tape (args .initial) (tested .if1 .taken) nodes)
+    let far = tested .if1 .taken in
+    (c .unsettled .ensures ∙ ap left (far-refused tape (args .initial) far _), far-notes tape (args .initial) far nodes)
 
 declare-requires : tie.Need-declare-requires
 declare-requires c κs = tt
