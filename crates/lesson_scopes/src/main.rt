@@ -63,7 +63,7 @@ fn paths(table: SymbolTable) {
     because(b"it has a reader of its own");
     say(b"The gate asks for reader.light");
     let path = [READER, LIGHT];
-    answer(both.query(IN_GATE, &path));
+    answer(questions::query(both, IN_GATE, &path));
     because(b"its own reader has no light, so the station is asked for the whole path");
 }
 
@@ -87,7 +87,7 @@ fn say_made(made: Node) {
 // Looks a name up from a scope.
 fn ask(table: SymbolTable, scope: u16, name: u16) -> Found {
     let path = [name];
-    table.query(scope, &path)
+    questions::query(table, scope, &path)
 }
 
 // Says where a lookup ends.

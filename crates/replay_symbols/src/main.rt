@@ -6,12 +6,12 @@
 // `unresolved`, `done`, of query_all the count and the nodes, or `refused` and document 01's number.
 use libc::STDIN_FILENO;
 use libc::STDOUT_FILENO;
+use questions::Got;
 use refusals::Outcome;
 use scopes::Count;
 use scopes::Found;
 use symbols::Changed;
 use symbols::Data;
-use symbols::Got;
 use symbols::Inserted;
 use symbols::Node;
 use symbols::SymbolTable;
@@ -93,7 +93,7 @@ fn part(numbers: &[u16], count: usize) -> &[u16] {
 // Prints what query_all gives.
 fn print_all(table: SymbolTable, nx: u16, path: &[u16]) {
     let mut list = [0u16; 1024];
-    match table.query_all(nx, path, &mut list) {
+    match questions::query_all(table, nx, path, &mut list) {
         Count::Is(count) => print_list(part(&list, count)),
         Count::Refused(number) => print_refused(number),
     }
@@ -104,11 +104,11 @@ fn print_answer(asked: Asked, table: SymbolTable, path: &[u16]) {
     let operation = asked.operation;
     let nx = asked.nx;
     match operation {
-        5 => print_got(table.get(nx)),
-        6 => print_found(table.child(nx, asked.other)),
-        7 => print_found(table.parent(nx)),
-        8 => print_found(table.try_index(nx, path)),
-        9 => print_found(table.query(nx, path)),
+        5 => print_got(questions::get(table, nx)),
+        6 => print_found(questions::child(table, nx, asked.other)),
+        7 => print_found(questions::parent(table, nx)),
+        8 => print_found(questions::try_index(table, nx, path)),
+        9 => print_found(questions::query(table, nx, path)),
         _ => print_all(table, nx, path),
     }
 }

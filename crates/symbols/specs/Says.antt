@@ -9,8 +9,6 @@ use Rattle.symbols.specs.declared.Changed.{Changed}
 use Rattle.symbols.specs.declared.Inserted.{Inserted}
 use Rattle.symbols.specs.declared.Data as D
 use Rattle.symbols.specs.declared.Data.the-variants as datum
-use Rattle.symbols.specs.declared.Got as G
-use Rattle.symbols.specs.declared.Got.the-variants as got
 use Rattle.symbols.specs.declared.Node as N
 use Rattle.symbols.specs.declared.Node.the-variants as node
 
@@ -18,11 +16,6 @@ use Rattle.symbols.specs.declared.Node.the-variants as node
 abbrev pub saysData : D.Data → Option ℤ
 saysData (datum.Number z) = some z
 saysData (datum.Unresolved) = none
-
-abbrev pub saysGot : G.Got → Answer (Option ℤ)
-saysGot (got.Number z) = Done (some z)
-saysGot (got.Unresolved) = Done none
-saysGot (got.Refused n) = Refused n
 
 abbrev pub saysNode : N.Node → Answer ℕ
 saysNode (node.Is n) = Done n

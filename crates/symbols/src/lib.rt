@@ -1,26 +1,20 @@
 // The symbol table, under the Rust's names: nodes, numbered as they are made, joined by edges with names. The nodes below a node
 // are its scope. A table is plain data and goes in and comes back by value; inside a call, look-ups lend its edges and copy
 // nothing. A call on a table that is not sound is refused (1), and a refused call changes nothing.
-use edges::LONGEST;
-use edges::SUPER;
 use edges::WIDTH;
 use edges::wide;
 use growth::Growth;
 use refusals::ARGUMENT;
 use refusals::Outcome;
-use scopes::Count;
-use scopes::Found;
 use soundness::is_node;
 ghost use mathlib.Core.Path.{_≡_};
 ghost use Prim.Native.Nat.{_+_, _<_, _≤_};
 ghost use lib.ListN.{length};
-ghost use Rattle.refusals.specs.Answer.{Done, Refused, mapped};
+ghost use Rattle.refusals.specs.Answer.{Done, Refused};
 ghost use Rattle.edges.specs.Edges.{maxNodes, maxEdges};
-ghost use Rattle.scopes.specs.Scopes.{listAfter};
-ghost use Rattle.scopes.specs.Says.{saysFound, saysCount};
-ghost use Rattle.symbols.specs.Symbols.{left, leftNode, new, numberAt, isKnown, numberOr0, withData, withEdge, withNode, inserted, grown};
-ghost use Rattle.symbols.specs.Symbols.{get, insert, updateData, child, parent, tryIndex, query, ensureIndex, export, queryAll};
-ghost use Rattle.symbols.specs.Says.{saysData, saysGot, saysChanged, saysInserted};
+ghost use Rattle.symbols.specs.Symbols.{left, leftNode, new, isKnown, numberOr0, withData, withEdge, withNode, inserted, grown};
+ghost use Rattle.symbols.specs.Symbols.{insert, updateData, ensureIndex, export};
+ghost use Rattle.symbols.specs.Says.{saysData, saysChanged, saysInserted};
 
 // How many nodes a table holds, with the root; also how many places the list of query_all has.
 pub const NODES: usize = edges::NODES;
@@ -42,13 +36,6 @@ pub struct SymbolTable {
 pub enum Data {
     Number(i64),
     Unresolved,
-}
-
-// A node's number, if it has one, or the refusal.
-pub enum Got {
-    Number(i64),
-    Unresolved,
-    Refused(u8),
 }
 
 // A node, or the refusal.
@@ -87,16 +74,6 @@ impl SymbolTable {
             known: [false; NODES],
             number: [0i64; NODES],
         }
-    }
-
-    // A node's number, if it has one.
-    pub fn get(self, nx: u16) -> Got
-        ensures { λ r. ⌜ saysGot r ≡ get self nx ⌝ }
-    {
-        if !is_node(&self.links, self.edges, self.nodes, nx) {
-            return Got::Refused(ARGUMENT);
-        }
-        number_at(&self.known, &self.number, nx)
     }
 
     // A new node below another, by this name.
@@ -159,57 +136,6 @@ impl SymbolTable {
                 }
             }
         }
-    }
-
-    // The node at the end of a path.
-    pub fn try_index(self, nx: u16, path: &[u16]) -> Found
-        ensures { λ r. ⌜ saysFound r ≡ tryIndex self nx (now (path .entry)) ⌝ }
-    {
-        if !is_node(&self.links, self.edges, self.nodes, nx) {
-            return Found::Refused(ARGUMENT);
-        }
-        if LONGEST < path.len() {
-            return Found::Refused(ARGUMENT);
-        }
-        scopes::answer(edges::walk(&self.links, self.edges, nx, path))
-    }
-
-    // The node that a node was last put under.
-    pub fn parent(self, nx: u16) -> Found
-        ensures { λ r. ⌜ saysFound r ≡ parent self nx ⌝ }
-    {
-        if !is_node(&self.links, self.edges, self.nodes, nx) {
-            return Found::Refused(ARGUMENT);
-        }
-        scopes::answer(edges::parent(&self.links, self.edges, nx))
-    }
-
-    // The node that a name means in a node.
-    pub fn child(self, nx: u16, id: u16) -> Found
-        ensures { λ r. ⌜ saysFound r ≡ child self nx id ⌝ }
-    {
-        if !is_node(&self.links, self.edges, self.nodes, nx) {
-            return Found::Refused(ARGUMENT);
-        }
-        if id == SUPER {
-            return Found::Refused(ARGUMENT);
-        }
-        scopes::answer(edges::child(&self.links, self.edges, nx, id))
-    }
-
-    // The node that a path means in a scope: the innermost scope decides in which the whole path is found.
-    pub fn query(self, nx: u16, path: &[u16]) -> Found
-        ensures { λ r. ⌜ saysFound r ≡ query self nx (now (path .entry)) ⌝ }
-    {
-        scopes::query(&self.links, self.edges, self.nodes, nx, path)
-    }
-
-    // The nodes that a path means in a scope and in each scope around it, and how many they are.
-    pub fn query_all(self, nx: u16, path: &[u16], list: &mut [u16]) -> Count
-        ensures { λ r. ⌜ (saysCount r ≡ mapped length (queryAll self nx (now (path .entry)) (length (now (list .entry)))))
-            × (now (list .exit) ≡ listAfter (now (list .entry)) (queryAll self nx (now (path .entry)) (length (now (list .entry))))) ⌝ }
-    {
-        scopes::query_all(&self.links, self.edges, self.nodes, nx, path, list)
     }
 
     // New nodes below s, one below the other, by these names.
@@ -303,18 +229,6 @@ fn done(table: SymbolTable) -> Changed
         table,
         answer: Outcome::Done,
     }
-}
-
-// The number of node nx, if it has one.
-fn number_at<'a>(known: &'a [bool; NODES], number: &'a [i64; NODES], nx: u16) -> Got
-    requires { ⌜ nx < maxNodes ⌝ }
-    ensures { λ r. ⌜ saysGot r ≡ Done (numberAt (now (known .entry)) (now (number .entry)) nx) ⌝ }
-{
-    let node = wide(nx);
-    if known[node] {
-        return Got::Number(number[node]);
-    }
-    Got::Unresolved
 }
 
 // Whether there is a number.

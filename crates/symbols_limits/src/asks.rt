@@ -20,7 +20,7 @@ pub fn calls(line: &[u8], table: SymbolTable) {
     let id = id(line, 2);
     print_word(script::words_from(line, 3));
     writes(table, nx, id);
-    found(b"  parent", table.parent(nx));
+    found(b"  parent", questions::parent(table, nx));
     child_of(b"  child", table, nx, id);
     reads(table, nx, &[id]);
 }
@@ -28,7 +28,7 @@ pub fn calls(line: &[u8], table: SymbolTable) {
 // What every call answers that gives a table, and get.
 fn writes(table: SymbolTable, nx: u16, id: u16) {
     let path = [id];
-    got(b"  get", table.get(nx));
+    got(b"  get", questions::get(table, nx));
     insert(b"  insert", table, nx, id);
     done(b"  update_data", table.update_data(nx, Data::Number(1)));
     export(b"  export of it from the root", table, nx, 0, &path);
@@ -39,9 +39,9 @@ fn writes(table: SymbolTable, nx: u16, id: u16) {
 // Prints what a path means in a scope.
 pub fn reads(table: SymbolTable, nx: u16, path: &[u16]) {
     let mut list = [0u16; 1024];
-    found(b"  try_index", table.try_index(nx, path));
-    found(b"  query", table.query(nx, path));
-    counted(b"  query_all", table.query_all(nx, path, &mut list));
+    found(b"  try_index", questions::try_index(table, nx, path));
+    found(b"  query", questions::query(table, nx, path));
+    counted(b"  query_all", questions::query_all(table, nx, path, &mut list));
 }
 
 // What every call that takes a path answers in the root, and whether it left a node behind: NAME.
@@ -71,7 +71,7 @@ pub fn list_of(line: &[u8], table: SymbolTable, path: &[u16]) {
     if LONGEST < places {
         return print_word(b"too long");
     }
-    let answer = table.query_all(1, path, &mut list[0..places]);
+    let answer = questions::query_all(table, 1, path, &mut list[0..places]);
     counted(script::words_from(line, 2), answer);
     print_places(&list);
 }
@@ -102,7 +102,7 @@ fn export(
 
 // Prints the child of a node.
 fn child_of(question: &[u8], table: SymbolTable, nx: u16, id: u16) {
-    found(question, table.child(nx, id));
+    found(question, questions::child(table, nx, id));
 }
 
 // An export, and which node is the next then; hands back the table: NODE PARENT NAME.

@@ -1,10 +1,10 @@
 // How questions and answers are printed.
 use libc::STDOUT_FILENO;
+use questions::Got;
 use refusals::Outcome;
 use scopes::Count;
 use scopes::Found;
 use symbols::Changed;
-use symbols::Got;
 use symbols::Inserted;
 use symbols::Node;
 use symbols::SymbolTable;

@@ -1,0 +1,2 @@
+-- Each public call allows one answer.
+pub mod Unique
