@@ -33,8 +33,8 @@ fn run(cases: &[u8], tape: &mut [u8]) {
 
 // Makes the tape, or builds it; gives its length.
 fn obey(line: &[u8], tape: &mut [u8], length: usize) -> usize {
-    if script::is_tape(line) {
-        return script::put_tape(tape, length, line);
+    if script_tapes::is_tape(line) {
+        return script_tapes::put_tape(tape, length, line);
     }
     ask(line, page::cut(tape, length));
     length

@@ -37,11 +37,11 @@ fn run(cases: &[u8], tape: &mut [u8], numbers: &mut [i64], bytes: &mut [u8]) {
 
 // Changes what is handed in, or checks it; gives how long it is.
 fn obey(line: &[u8], hand: Hand, tape: &mut [u8], numbers: &mut [i64], bytes: &mut [u8]) -> Hand {
-    if script::is_tape(line) {
-        return hand.with_tape(script::put_tape(tape, hand.tape, line));
+    if script_tapes::is_tape(line) {
+        return hand.with_tape(script_tapes::put_tape(tape, hand.tape, line));
     }
     match script::command(line, b"bytes byte numbers filled number") {
-        0 => hand.with_bytes(script::put_bytes(bytes, 0, line)),
+        0 => hand.with_bytes(script_tapes::put_bytes(bytes, 0, line)),
         1 => {
             hand::put_byte(bytes, line);
             hand

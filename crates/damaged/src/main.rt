@@ -39,8 +39,8 @@ fn run(cases: &[u8], room: &mut [u8]) -> Trial {
 
 // Makes something sound, or damages it.
 fn obey(line: &[u8], trial: Trial, room: &mut [u8]) -> Trial {
-    if script::is_tape(line) {
-        return trial.with_length(script::put_tape(room, trial.length, line));
+    if script_tapes::is_tape(line) {
+        return trial.with_length(script_tapes::put_tape(room, trial.length, line));
     }
     if script::is_command(line, b"as-expression") {
         return trial::damage(trial.of_kind(false), room);

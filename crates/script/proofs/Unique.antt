@@ -1,5 +1,4 @@
--- Each public call allows one answer, and one memory at exit: the law of `refusals`, applied to each call's own contract.
--- Assumes nothing.
+-- Each public call allows one answer: the law of `refusals`, applied to each call's own contract. Assumes nothing.
 use mathlib.Core.List.{List}
 use Prim.Native.Nat.{ℕ}
 use Rattle.refusals.proofs.Unique.{One, OneResult, same}
@@ -12,9 +11,6 @@ use Rattle.script.proofs.number.Reads as number
 use Rattle.script.proofs.is_command.Reads as is-command
 use Rattle.script.proofs.command.Reads as command
 use Rattle.script.proofs.is_silent.Reads as is-silent
-use Rattle.script.proofs.put_bytes.Reads as put-bytes
-use Rattle.script.proofs.is_tape.Reads as is-tape
-use Rattle.script.proofs.put_tape.Reads as put-tape
 
 -- ---- numbers and tests
 
@@ -36,9 +32,6 @@ command-one k a x y e f p q = same p q
 pub is-silent-one : OneResult is-silent.Post
 is-silent-one k a x y e f p q = same p q
 
-pub is-tape-one : OneResult is-tape.Post
-is-tape-one k a x y e f p q = same p q
-
 -- ---- the bytes of a part
 
 pub line-one : One {S = λ k. List ℕ} (λ k x e. x .now) line.Post
@@ -49,11 +42,3 @@ word-one k a x y e f p q = same p q
 
 pub words-from-one : One {S = λ k. List ℕ} (λ k x e. x .now) words-from.Post
 words-from-one k a x y e f p q = same p q
-
--- ---- the offset behind what was laid, and the memory at exit
-
-pub put-bytes-one : One {S = λ k. ℕ × List ℕ} (λ k x e. (x, e .0 .now)) put-bytes.Post
-put-bytes-one k a x y e f p q = same p q
-
-pub put-tape-one : One {S = λ k. ℕ × List ℕ} (λ k x e. (x, e .0 .now)) put-tape.Post
-put-tape-one k a x y e f p q = same p q

@@ -3,5 +3,4 @@ pub mod Parts
 pub mod Words
 pub mod Numbers
 pub mod Commands
-pub mod Tapes
 pub mod Steps

@@ -1,17 +1,14 @@
-// Case files: text of which each line is a command and its words. A program asks for a line by its number, and for its words, and lays the
-// bytes that a line has in hexadecimal into lent memory. Total: what is not there is empty, or 0.
-use tape::LABEL;
+// Case files: text of which each line is a command and its words. A program asks for a line by its number, and for its words. Total: what is
+// not there is empty, or 0.
 ghost use mathlib.Core.Path.{_≡_};
 ghost use Prim.Native.Nat.{_≤_};
 ghost use lib.Dec.{eqb};
 ghost use lib.ListN.{length};
 ghost use Rattle.refusals.specs.Answer.{pick};
-ghost use Rattle.page.specs.Page.{laid, repeated, bytesIn};
 ghost use Rattle.script.specs.Parts.{until, from, starts};
 ghost use Rattle.script.specs.Words.{linesIn, lineOf, wordsIn, wordOf, wordsFrom};
 ghost use Rattle.script.specs.Numbers.{withDigit, withLetter, numberIn, numberOf};
-ghost use Rattle.script.specs.Commands.{isCommand, commandOf, isSilent, isTape};
-ghost use Rattle.script.specs.Tapes.{bytesOf, labelOf, labelsBehind, tapeAfter};
+ghost use Rattle.script.specs.Commands.{isCommand, commandOf, isSilent};
 ghost use Rattle.script.specs.Steps.{Next};
 
 // What stands between two lines, and between two words.
@@ -199,76 +196,4 @@ pub fn is_silent(line: &[u8]) -> bool
         return true;
     }
     line[0] == COMMENT
-}
-
-// Lays the bytes of a text so often.
-fn put_times(room: &mut [u8], begin: usize, text: &[u8], times: usize) -> usize
-    ensures { λ r. ⌜ (r, now (room .exit)) ≡ laid (now (room .entry)) begin (repeated times (bytesIn (now (text .entry)))) ⌝ }
-{
-    let mut at = begin;
-    let mut left = times;
-    while left > 0 {
-        at = page::put_hex(room, at, text);
-        left -= 1;
-    }
-    at
-}
-
-// Lays the bytes that a line has behind its command.
-pub fn put_bytes(room: &mut [u8], at: usize, line: &[u8]) -> usize
-    ensures { λ r. ⌜ (r, now (room .exit)) ≡ laid (now (room .entry)) at (bytesOf (now (line .entry))) ⌝ }
-{
-    if page::is_same(word(line, 2), b"x") {
-        return put_times(room, at, words_from(line, 3), number(line, 1));
-    }
-    page::put_hex(room, at, words_from(line, 1))
-}
-
-// Lays a label.
-fn put_label(room: &mut [u8], at: usize, id: usize) -> usize
-    ensures { λ r. ⌜ (r, now (room .exit)) ≡ laid (now (room .entry)) at (labelOf id) ⌝ }
-{
-    page::put_all(room, at, &[LABEL, (id % 256) as u8, (id / 256 % 256) as u8])
-}
-
-// Lays labels from 1 to the last.
-fn put_labels(room: &mut [u8], begin: usize, last: usize) -> usize
-    ensures { λ r. ⌜ (r, now (room .exit)) ≡ laid (now (room .entry)) begin (labelsBehind 0 last) ⌝ }
-{
-    let mut at = begin;
-    let mut id = 0;
-    while id < last {
-        id += 1;
-        at = put_label(room, at, id);
-    }
-    at
-}
-
-// Whether a line makes a tape.
-pub fn is_tape(line: &[u8]) -> bool
-    ensures { λ r. ⌜ r ≡ isTape (now (line .entry)) ⌝ }
-{
-    if is_command(line, b"tape") {
-        return true;
-    }
-    if is_command(line, b"more") {
-        return true;
-    }
-    is_command(line, b"labels")
-}
-
-// Makes a tape, as a line says: `tape` begins it anew, `more` and `labels` go on behind its length.
-pub fn put_tape(room: &mut [u8], length: usize, line: &[u8]) -> usize
-    ensures { λ r. ⌜ (r, now (room .exit)) ≡ tapeAfter (now (room .entry)) length (now (line .entry)) ⌝ }
-{
-    if is_command(line, b"tape") {
-        return put_bytes(room, 0, line);
-    }
-    if is_command(line, b"more") {
-        return put_bytes(room, length, line);
-    }
-    if is_command(line, b"labels") {
-        return put_labels(room, length, number(line, 1));
-    }
-    length
 }

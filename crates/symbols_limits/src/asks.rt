@@ -41,7 +41,10 @@ pub fn reads(table: SymbolTable, nx: u16, path: &[u16]) {
     let mut list = [0u16; 1024];
     found(b"  try_index", questions::try_index(table, nx, path));
     found(b"  query", questions::query(table, nx, path));
-    counted(b"  query_all", questions::query_all(table, nx, path, &mut list));
+    counted(
+        b"  query_all",
+        questions::query_all(table, nx, path, &mut list),
+    );
 }
 
 // What every call that takes a path answers in the root, and whether it left a node behind: NAME.

@@ -1,8 +1,8 @@
 -- One command after the other. Assumes nothing.
-use Rattle.script.proofs.Making.{tape-first, tape-second, tape-third}
+use Rattle.script_tapes.proofs.Making.{tape-first, tape-second, tape-third}
 use borrow.Author.Needs.{needs}
-use Rattle.script.proofs.is_tape.Statement.{statement}
-use Rattle.script.proofs.is_tape.Tie as tie
+use Rattle.script_tapes.proofs.is_tape.Statement.{statement}
+use Rattle.script_tapes.proofs.is_tape.Tie as tie
 
 slice-aggregate-is-command : tie.Need-slice-aggregate-is-command
 slice-aggregate-is-command c = search needs

@@ -6,8 +6,8 @@ use lib.ListN.{length}
 use Rattle.page.specs.Page.{laid, repeated, bytesIn}
 use Rattle.page.proofs.Laying.{goes-on, all-laid}
 use Rattle.page.proofs.Rests.{next-time}
-use Rattle.script.proofs.put_times.Statement.{statement}
-use Rattle.script.proofs.put_times.Tie as tie
+use Rattle.script_tapes.proofs.put_times.Statement.{statement}
+use Rattle.script_tapes.proofs.put_times.Tie as tie
 
 abbrev Inv-loop : tie.InvT-loop
 Inv-loop room₀ begin text times at₀ left₀ room at left =

@@ -6,10 +6,10 @@ use Prim.Native.Nat.{ℕ, suc, _+_, _-_, _≤_, _<_}
 use native.Mathlib.Omega.{arith}
 use Rattle.refusals.proofs.Pick.{at-true, at-false}
 use Rattle.page.specs.Page.{laid, repeated, bytesIn, same}
 use Rattle.script.specs.Words.{wordOf, wordsFrom}
 use Rattle.script.specs.Numbers.{numberOf}
-use Rattle.script.specs.Commands.{isCommand, isTape, tapeAnew, moreBytes, moreLabels}
-use Rattle.script.specs.Tapes.{times, bytesOf, labelOf, labelsBehind, tapeAfter}
+use Rattle.script.specs.Commands.{isCommand}
+use Rattle.script_tapes.specs.Tapes.{tapeAnew, moreBytes, moreLabels, isTape, times, bytesOf, labelOf, labelsBehind, tapeAfter}
 
 -- ---- labels
 

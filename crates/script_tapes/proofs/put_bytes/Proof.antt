@@ -1,8 +1,8 @@
 -- Bytes that are repeated, or once. Assumes nothing.
-use Rattle.script.proofs.Making.{laid-often, laid-once}
+use Rattle.script_tapes.proofs.Making.{laid-often, laid-once}
 use borrow.Author.Needs.{needs}
-use Rattle.script.proofs.put_bytes.Statement.{statement}
-use Rattle.script.proofs.put_bytes.Tie as tie
+use Rattle.script_tapes.proofs.put_bytes.Statement.{statement}
+use Rattle.script_tapes.proofs.put_bytes.Tie as tie
 
 word-requires : tie.Need-word-requires
 word-requires c κs = search needs

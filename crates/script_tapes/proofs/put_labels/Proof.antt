@@ -5,10 +5,10 @@ use native.Mathlib.Omega.{arith}
 use lib.ListN.{length}
 use Rattle.page.specs.Page.{laid}
 use Rattle.page.proofs.Laying.{goes-on, all-laid}
-use Rattle.script.specs.Tapes.{labelsBehind}
-use Rattle.script.proofs.Making.{next-label, no-label}
-use Rattle.script.proofs.put_labels.Statement.{statement}
-use Rattle.script.proofs.put_labels.Tie as tie
+use Rattle.script_tapes.specs.Tapes.{labelsBehind}
+use Rattle.script_tapes.proofs.Making.{next-label, no-label}
+use Rattle.script_tapes.proofs.put_labels.Statement.{statement}
+use Rattle.script_tapes.proofs.put_labels.Tie as tie
 
 abbrev Inv-loop : tie.InvT-loop
 Inv-loop room₀ begin last at₀ id₀ room at id =

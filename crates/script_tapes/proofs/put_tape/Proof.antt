@@ -1,8 +1,8 @@
 -- One command after the other, and what it lays. Assumes nothing.
-use Rattle.script.proofs.Making.{begun-anew, gone-on, labelled, no-tape}
+use Rattle.script_tapes.proofs.Making.{begun-anew, gone-on, labelled, no-tape}
 use borrow.Author.Needs.{needs}
-use Rattle.script.proofs.put_tape.Statement.{statement}
-use Rattle.script.proofs.put_tape.Tie as tie
+use Rattle.script_tapes.proofs.put_tape.Statement.{statement}
+use Rattle.script_tapes.proofs.put_tape.Tie as tie
 
 slice-aggregate-is-command : tie.Need-slice-aggregate-is-command
 slice-aggregate-is-command c = search needs

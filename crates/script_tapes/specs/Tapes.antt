@@ -1,12 +1,32 @@
 -- Tapes that are made line by line. Assumes nothing: these are definitions.
 use Prim.Native.Nat.{ℕ, zero, suc, _+_, _/_, _%_}
+use mathlib.Core.Bool.{Bool, _||_}
 use mathlib.Core.List.{List, [], _∷_, _++_}
 use Rattle.refusals.specs.Answer.{pick}
 use Rattle.tape.specs.Kinds.{label}
 use Rattle.page.specs.Page.{laid, repeated, same, bytesIn}
 use Rattle.script.specs.Words.{wordOf, wordsFrom}
 use Rattle.script.specs.Numbers.{numberOf}
-use Rattle.script.specs.Commands.{isCommand, tapeAnew, moreBytes, moreLabels}
+use Rattle.script.specs.Commands.{isCommand}
+
+-- ---- the commands that make a tape, by their ASCII codes
+
+-- "tape"
+abbrev pub tapeAnew : List ℕ
+tapeAnew = 0x74 ∷ 0x61 ∷ 0x70 ∷ 0x65 ∷ []
+
+-- "more"
+abbrev pub moreBytes : List ℕ
+moreBytes = 0x6d ∷ 0x6f ∷ 0x72 ∷ 0x65 ∷ []
+
+-- "labels"
+abbrev pub moreLabels : List ℕ
+moreLabels = 0x6c ∷ 0x61 ∷ 0x62 ∷ 0x65 ∷ 0x6c ∷ 0x73 ∷ []
+
+unfoldable pub isTape : List ℕ → Bool
+isTape line = isCommand line tapeAnew || isCommand line moreBytes || isCommand line moreLabels
+
+-- ---- tapes
 
 -- "x"
 abbrev pub times : List ℕ
