@@ -1,5 +1,5 @@
-// Case files: text of which each line is a command and its words. A program asks for a line by its number, and for its words. Total: what is
-// not there is empty, or 0.
+// Case files: text of which each line is a command and its words. A program asks for a line by its number, and for its words. Total:
+// what is not there is empty, or 0.
 ghost use mathlib.Core.Path.{_≡_};
 ghost use Prim.Native.Nat.{_≤_};
 ghost use lib.Dec.{eqb};
