@@ -3,7 +3,14 @@
 use tries::Written;
 use walk::Numbers;
 ghost use mathlib.Core.Path.{_≡_};
+ghost use Rattle.refusals.specs.AnswerAt.{mapped};
+ghost use Rattle.pen.specs.Pens.{size};
+ghost use Rattle.compares.specs.Compared.{builder};
+ghost use Rattle.tries.specs.Write.{writeOf, rangeOf, saysWritten};
 ghost use Rattle.finish.specs.Finish.{finishOf, saysBuilt};
+
+// How many bytes an image has.
+const SIZE: usize = 65536;
 
 // A finished build: where what is written starts and ends, how many numbers the list has, and how many passes there were. Or the
 // refusal.
@@ -45,4 +52,20 @@ pub fn finish<'a>(
             }
         }
     }
+}
+
+// Tries every statement, into an image that is not kept.
+pub fn tried<'a>(tape: &'a [u8], nodes: &'a [u16], numbers: Numbers, initial: usize) -> Written
+    ensures { λ r. ⌜ saysWritten r
+        ≡ mapped rangeOf (writeOf (now (tape .entry)) (now (nodes .entry)) numbers initial builder size) ⌝ }
+{
+    let mut image = [0u8; SIZE];
+    tries::write(
+        tape,
+        nodes,
+        numbers,
+        initial,
+        compares::builder(),
+        &mut image,
+    )
 }

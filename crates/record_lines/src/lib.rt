@@ -18,7 +18,7 @@ ghost use Prim.Native.Nat.{_≤_};
 ghost use lib.IntN.{pos};
 ghost use lib.ListN.{length, getD};
 ghost use Rattle.refusals.specs.Answer.{pick};
-ghost use Rattle.refusals.specs.AnswerAt.{part, mapped};
+ghost use Rattle.refusals.specs.AnswerAt.{part};
 ghost use Rattle.opcodes.specs.Encode.{code};
 ghost use Rattle.page.specs.Page.{laid};
 ghost use Rattle.mnemonics.specs.Mnemonics.{nameOf};
@@ -28,15 +28,11 @@ ghost use Rattle.form.specs.Statements.{whatOf, isInner, statements};
 ghost use Rattle.evaluator.specs.Says.{saysValue};
 ghost use Rattle.walk.specs.Walk.{origin, begin};
 ghost use Rattle.walk.specs.Numbers.{numbersIn, readsNoted};
-ghost use Rattle.compares.specs.Compared.{plain, builder};
+ghost use Rattle.compares.specs.Compared.{plain};
 ghost use Rattle.tries.specs.Try.{tryOf};
 ghost use Rattle.tries.specs.Steps.{bytesIn, placeBehind};
-ghost use Rattle.tries.specs.Write.{writeOf, rangeOf, saysWritten};
 ghost use Rattle.record_lines.specs.Records.{mnemonicOf, lineOf, lines, said, recorded};
 ghost use Rattle.record_lines.specs.Steps.{AllPass};
-
-// How many bytes an image has.
-const SIZE: usize = 65536;
 
 // Tries every statement with these numbers, and puts the lines at the text's beginning; the offset behind them.
 pub fn put_records<'a>(
@@ -50,29 +46,13 @@ pub fn put_records<'a>(
     ensures { λ r. ⌜ (r, now (text .exit)) ≡ laid (now (text .entry)) 0
         (said (recorded (now (tape .entry)) (now (nodes .entry)) numbers passes initial)) ⌝ }
 {
-    match tried(tape, nodes, numbers, initial) {
+    match finish::tried(tape, nodes, numbers, initial) {
         Written::Refused { number, at } => lines::put_refused(text, 0, number, at),
         Written::Range { start, end } => {
             let at = put_lines(tape, nodes, &numbers.known, &numbers.number, initial, text);
             lines::put_last(text, at, start, end, passes)
         }
     }
-}
-
-// Tries every statement, into an image that is not kept.
-fn tried<'a>(tape: &'a [u8], nodes: &'a [u16], numbers: Numbers, initial: usize) -> Written
-    ensures { λ r. ⌜ saysWritten r
-        ≡ mapped rangeOf (writeOf (now (tape .entry)) (now (nodes .entry)) numbers initial builder size) ⌝ }
-{
-    let mut image = [0u8; SIZE];
-    tries::write(
-        tape,
-        nodes,
-        numbers,
-        initial,
-        compares::builder(),
-        &mut image,
-    )
 }
 
 // A line for each record that writes. Every statement has passed its try.

@@ -25,11 +25,11 @@ back-tried (tried.Refused n at) = refl
 pub attempt-one : OneResult attempt.Post
 attempt-one k a x y e f p q = told-apart saysTried backTried back-tried p q
 
-abbrev backWritten : AnswerAt (ℕ × ℕ) → Written
+abbrev pub backWritten : AnswerAt (ℕ × ℕ) → Written
 backWritten (Fine x) = written.Range (x .0) (x .1)
 backWritten (Fault n at) = written.Refused n at
 
-back-written : (x : Written) → backWritten (saysWritten x) ≡ x
+pub back-written : (x : Written) → backWritten (saysWritten x) ≡ x
 back-written (written.Range s e) = refl
 back-written (written.Refused n at) = refl
 

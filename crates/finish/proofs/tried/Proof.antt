@@ -6,8 +6,8 @@ use Rattle.refusals.specs.AnswerAt.{mapped}
 use Rattle.tries.specs.Write.{rangeOf}
 use Rattle.tries.proofs.Agrees.{write-by}
 use borrow.Author.Needs.{needs}
-use Rattle.record_lines.proofs.tried.Statement.{statement}
-use Rattle.record_lines.proofs.tried.Tie as tie
+use Rattle.finish.proofs.tried.Statement.{statement}
+use Rattle.finish.proofs.tried.Tie as tie
 
 builder-requires : tie.Need-builder-requires
 builder-requires c κs = search needs
