@@ -1,4 +1,6 @@
 // A branch's operand byte: how far its target lies from the instruction behind it.
+#![tactic(auto)]
+
 ghost use Rattle.std.specs.Prelude.{◌≡◌, pos, ◌-ℤ◌};
 ghost use Rattle.branch.specs.Branch.{byte_of, distance_of};
 ghost use Rattle.branch.specs.Says.{says_distance};
@@ -7,7 +9,7 @@ use int64::Number;
 use refusals::TOO_FAR;
 
 // A branch's operand byte, or a refusal.
-#[derive(Drop)]
+#[derive(Clone, Copy)]
 pub enum Distance {
     Byte(u8),
     Refused(u8),

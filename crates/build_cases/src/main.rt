@@ -2,6 +2,7 @@
 // words for it, then start and end in hexadecimal, the passes, the numbers in decimal and the bytes from start to end; or the refusal and
 // its offset. Where more than sixteen numbers or bytes would stand, the first and the last do. The expected answers stand in stdout, and
 // were written from document 01.
+#![tactic(auto)]
 mod memory;
 mod show;
 

@@ -17,7 +17,7 @@ pub fn print_decimal(n: usize) {
 
 // Prints a byte in hexadecimal.
 fn print_byte(byte: u8) {
-    print(&hex::capital(byte));
+    print(&hexadecimal::capital(byte));
 }
 
 // Prints a place of up to 65,536 in hexadecimal.

@@ -10,7 +10,7 @@ const VALUES: usize = 256;
 const DIFFERS: u8 = 18;
 
 // How many answers accepted, and how many refused with 18 at 0.
-#[derive(Drop)]
+#[derive(Clone, Copy)]
 struct Tally {
     accepted: usize,
     differing: usize,

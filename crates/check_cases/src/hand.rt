@@ -1,7 +1,7 @@
 // What is handed in with a tape: numbers and bytes.
 
 // How long the tape is, how many numbers there are, and how many bytes.
-#[derive(Drop)]
+#[derive(Clone, Copy)]
 pub struct Hand {
     pub tape: usize,
     pub numbers: usize,

@@ -1,5 +1,6 @@
 // What `checker::check` answers to the cases on standard input, whose head says how they are written: a line for each case, with a few
 // words for it, then `accepted`, or the refusal and its offset. Document 01's answers stand in stdout.
+#![tactic(auto)]
 mod each;
 mod hand;
 mod show;

@@ -1,4 +1,6 @@
 // What a try compares with the number list: a build the place of a label, a check the number of a constant too, demand 3 nothing.
+#![tactic(auto)]
+
 ghost use Rattle.std.specs.Prelude.{◌≡◌};
 ghost use Rattle.compares.specs.Compared.{plain, builder, checker};
 
@@ -8,7 +10,7 @@ use refusals::{MOVED, NUMBER_DIFFERS};
 const NOT: u8 = 0;
 
 // The refusal to give where a label's place, or a constant's value, differs from the list; 0 skips the comparison.
-#[derive(Drop)]
+#[derive(Clone, Copy)]
 pub struct Compares {
     pub label: u8,
     pub constant: u8,

@@ -10,7 +10,7 @@ const LONGEST: usize = 65536;
 const LONGEST_RECORD: usize = 10;
 
 // What was done to something sound: nothing; it was cut; or the byte at an offset was changed.
-#[derive(Drop)]
+#[derive(Clone, Copy)]
 pub enum Damage {
     Nothing,
     Cut,
@@ -18,7 +18,7 @@ pub enum Damage {
 }
 
 // The number of a refusal and its place, 0 and 0 where there is none.
-#[derive(Drop)]
+#[derive(Clone, Copy)]
 pub struct Seen {
     pub number: u8,
     pub at: usize,

@@ -3,6 +3,7 @@
 // An answer is wrong if its number is none that the call may give, if its place lies behind the end or before what was changed, if
 // something sound is refused or something cut is not cut short, or if `evaluate` answers otherwise than `expression_form` where that
 // refuses.
+#![tactic(auto)]
 mod dice;
 mod judge;
 mod tally;

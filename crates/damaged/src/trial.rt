@@ -14,7 +14,7 @@ const SCOPE: u16 = 1;
 const PLACE: i64 = -3;
 
 // How long what is damaged is, and whether it is a tape; the generator's number; what names mean; and the answers of each call so far.
-#[derive(Drop)]
+#[derive(Clone, Copy)]
 pub struct Trial {
     pub length: usize,
     is_tape: bool,

@@ -1,5 +1,7 @@
 // Look-ups in the edges of a table: in the first n of them, which are in the order of adding, so that each goes from the last to
 // the first. The edges are lent; nothing is copied. Edges may be anything: a count above what there is room for counts as that.
+#![tactic(auto)]
+
 ghost use Rattle.std.specs.Prelude.{◌≡◌, ◌<◌, min};
 ghost use Rattle.edges.specs.Edges.{max_edges, last_edge, child_of, parent_of, step_of, walk_of, has, there_of, elsewhere, taken, edge_at, held};
 ghost use Rattle.edges.specs.Says.{says_reached};
@@ -26,7 +28,7 @@ pub const LONGEST: usize = 4;
 pub const SUPER: u16 = 0;
 
 // In node `from` the name `id` means node `to`.
-#[derive(Drop)]
+#[derive(Clone, Copy)]
 pub struct Edge {
     pub from: u16,
     pub id: u16,
@@ -34,14 +36,14 @@ pub struct Edge {
 }
 
 // Where a look-up ends.
-#[derive(Drop)]
+#[derive(Clone, Copy)]
 pub enum Reached {
     At(u16),
     Nothing,
 }
 
 // The deepest node of a path that is there, and how many ids of the path lead to it.
-#[derive(Drop)]
+#[derive(Clone, Copy)]
 pub struct There {
     pub node: u16,
     pub depth: usize,

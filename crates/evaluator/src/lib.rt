@@ -1,6 +1,7 @@
 // Expressions on a tape, under the Rust's names. An expression is an operator with two expressions behind it, or a factor; a factor
 // is flags with an expression behind them, a number, the current place, or a name. Which node a name reaches is found first and
 // noted at its offset; what is computed then needs no table.
+#![tactic(auto)]
 ghost use Rattle.std.specs.Prelude.{◌≡◌, ◌≤◌, length};
 ghost use Rattle.int64.specs.Says.{says};
 ghost use Rattle.symbols.specs.Says.{says_data};
@@ -23,7 +24,7 @@ const SHORT: usize = 256;
 
 // What an expression comes to: a number; unresolved, with the offset of the first name that is; or refused, with the offset of the
 // record that refused.
-#[derive(Drop)]
+#[derive(Clone, Copy)]
 pub enum Value {
     Number(i64),
     Unresolved(usize),
@@ -31,21 +32,21 @@ pub enum Value {
 }
 
 // Where an expression ends, and what it comes to.
-#[derive(Drop)]
+#[derive(Clone, Copy)]
 pub struct Step {
     pub at: usize,
     pub value: Value,
 }
 
 // The number that an expression alone comes to, or the refusal.
-#[derive(Drop)]
+#[derive(Clone, Copy)]
 pub enum Evaluated {
     Number(i64),
     Refused { number: u8, at: usize },
 }
 
 // Of a record that expressions follow, its byte and where it ends; or that it is another.
-#[derive(Drop)]
+#[derive(Clone, Copy)]
 enum Inner {
     Is { byte: u8, next: usize },
     Not,

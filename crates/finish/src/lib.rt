@@ -1,5 +1,6 @@
 // The end of a build: each statement of a tape whose names have been resolved is tried with the numbers of its layout; where none is
 // refused, the lent image is written and the lent list has the numbers.
+#![tactic(auto)]
 ghost use Rattle.std.specs.Prelude.{◌≡◌};
 ghost use Rattle.refusals.specs.AnswerAt.{mapped};
 ghost use Rattle.pen.specs.Pens.{size};
@@ -15,7 +16,7 @@ const SIZE: usize = 65536;
 
 // A finished build: where what is written starts and ends, how many numbers the list has, and how many passes there were. Or the
 // refusal.
-#[derive(Drop)]
+#[derive(Clone, Copy)]
 pub enum Built {
     Finished {
         start: usize,

@@ -1,5 +1,6 @@
 // The form of a tape, and of an expression alone. One step over a record, with a small state: how many scopes are open, and the
 // depths of the expressions still to come.
+#![tactic(auto)]
 ghost use Rattle.std.specs.Prelude.{◌&&◌, ◌≡◌, ◌∷◌, ◌++◌, ◌+◌, ◌-◌, ◌≤◌, ◌<◌, min, eqb, ltb, drop, replicate};
 ghost use Rattle.refusals.specs.Answer.{pick};
 ghost use Rattle.refusals.specs.AnswerAt.{Fine, Fault};
@@ -29,7 +30,7 @@ const IMPLIED: u8 = 0;
 const PLACES: usize = 66;
 
 // The open scopes; and the depths of the expressions still to come, the next first, from the place `from` of the array on.
-#[derive(Drop)]
+#[derive(Clone, Copy)]
 struct State {
     scopes: usize,
     from: usize,
@@ -37,7 +38,7 @@ struct State {
 }
 
 // What a record does: it goes on, it ends the tape, or it is refused.
-#[derive(Drop)]
+#[derive(Clone, Copy)]
 enum Next {
     Go,
     Stop,
@@ -45,7 +46,7 @@ enum Next {
 }
 
 // What a record does, and the state behind it.
-#[derive(Drop)]
+#[derive(Clone, Copy)]
 struct Stepped {
     next: Next,
     state: State,

@@ -1,5 +1,7 @@
 // What a table may be given: whether it takes a new name, and where the new nodes of a path begin. Each test of document 01, in its
 // order, over edges that are lent; nothing is changed here.
+#![tactic(auto)]
+
 ghost use Rattle.std.specs.Prelude.{◌&&◌, ◌≡◌, ◌+◌, ◌≤◌, eqb};
 ghost use Rattle.refusals.specs.Says.{says};
 ghost use Rattle.edges.specs.Edges.{max_nodes, max_edges, max_path, has, chain, taken, there_of, edges_in, held};
@@ -14,7 +16,7 @@ use refusals::{ARGUMENT, LOOP, NAME_TAKEN, NO_ROOM, Outcome};
 use soundness::is_node;
 
 // Where new nodes begin: the deepest node of the path that is there, and how many ids lead to it; or the refusal.
-#[derive(Drop)]
+#[derive(Clone, Copy)]
 pub enum Growth {
     From(There),
     Refused(u8),

@@ -1,6 +1,8 @@
 // An index of the edges of a table, made while they are added. It has a word for each bucket of scopes and ids, the newest edge in
 // it; for each node, its parent; and for each edge, the next older one of its bucket: one more than each of these numbers, and 0
 // where there is none. So a look-up reads one bucket and not all edges. Its words may be anything: every look-up ends.
+#![tactic(auto)]
+
 ghost use Rattle.std.specs.Prelude.{◌≡◌, ◌<◌, min, get_or};
 ghost use Rattle.edges.specs.Edges.{max_nodes, max_edges, has};
 ghost use Rattle.edges.specs.Says.{says_reached};

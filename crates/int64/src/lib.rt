@@ -1,5 +1,7 @@
 // Arithmetic on i64 that refuses (10) where the Rust overflows, and the low bytes of a number. Each function equals a definition over
 // the integers. Only the first four functions and `shr` touch an i64: the rest is on a sign and a size, or on a word of bits.
+#![tactic(auto)]
+
 ghost use Rattle.std.specs.Prelude.{◌≡◌, ◌+◌, ◌*◌, ◌%◌, ◌^◌, not, ◌+ℤ◌, ◌-ℤ◌, ◌*ℤ◌, neg_ℤ, unsigned_abs};
 ghost use Rattle.std.specs.Int.{w64};
 ghost use Rattle.std.proofs.Common.{to_z, of_z};
@@ -10,7 +12,7 @@ ghost use Rattle.int64.specs.SignAndSize.{below_zero, signed, apart};
 use refusals::ARITHMETIC;
 
 // A number, or a refusal.
-#[derive(Drop)]
+#[derive(Clone, Copy)]
 pub enum Number {
     Is(i64),
     Refused(u8),

@@ -1,5 +1,7 @@
 // The way back from bytes: the row of an opcode, and an instruction from its bytes. `row_of` alone knows the inverse table: `decode`
 // goes through it.
+#![tactic(auto)]
+
 mod tables;
 
 ghost use Rattle.std.specs.Prelude.{◌≡◌, ◌∷◌, [], ◌<◌};
@@ -11,7 +13,7 @@ use refusals::{CUT_SHORT, NO_ROW};
 use tables::{NO_OPCODE, ROWS};
 
 // A row, and how many operand bytes stand behind its opcode.
-#[derive(Drop)]
+#[derive(Clone, Copy)]
 pub struct Row {
     pub mnemonic: u8,
     pub mode: u8,
@@ -20,14 +22,14 @@ pub struct Row {
 }
 
 // The row of an opcode, or none.
-#[derive(Drop)]
+#[derive(Clone, Copy)]
 pub enum Known {
     Is(Row),
     Nothing,
 }
 
 // An instruction, or a refusal.
-#[derive(Drop)]
+#[derive(Clone, Copy)]
 pub enum Decoded {
     Instruction { row: Row, operand: u16 },
     Refused(u8),

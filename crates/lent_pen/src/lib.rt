@@ -1,6 +1,8 @@
 // The pen, lent: reset, set_pc and emit change it where it is, under the Rust's names. Each is thin: it takes the
 // pen out, calls segment's function of the same name, which takes a pen by value, and stores the pen that comes back. emit_two is for
 // callers that hold no pen.
+#![tactic(auto)]
+
 ghost use Rattle.std.specs.Prelude.{◌≡◌};
 ghost use Rattle.refusals.specs.Says.{says};
 ghost use Rattle.program_counter.specs.Says.{says_range};

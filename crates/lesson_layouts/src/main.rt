@@ -11,6 +11,7 @@
 //
 //             fare = fare
 //             .byte fare
+#![tactic(auto)]
 use builder::Built;
 use checker::Checked;
 use libc::STDOUT_FILENO;
@@ -215,7 +216,7 @@ fn say_bytes(bytes: &[u8]) {
 // Says a byte.
 fn say_byte(byte: u8) {
     say(b" ");
-    say(&hex::capital(byte));
+    say(&hexadecimal::capital(byte));
 }
 
 // Says why.

@@ -10,6 +10,7 @@
 //     ticket: .byte 5
 //     fare:
 //             room = 251          or 252
+#![tactic(auto)]
 use builder::Built;
 use libc::STDOUT_FILENO;
 use symbols::NODES;
@@ -210,7 +211,7 @@ fn say_finished(end: usize, passes: usize, image: &[u8]) {
 // Says the byte at a place.
 fn say_byte(image: &[u8], place: usize) {
     say(b" ");
-    say(&hex::capital(little::u8_at(image, place)));
+    say(&hexadecimal::capital(little::u8_at(image, place)));
 }
 
 // Says some words.

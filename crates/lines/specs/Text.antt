@@ -1,7 +1,7 @@
 -- The lines of a listing, as the ASCII codes of their characters. Assumes nothing: these are definitions.
 use Rattle.std.specs.Prelude.{ℕ, List, [], ◌∷◌, ◌++◌}
 use Prim.Native.String.{String}
-use Rattle.hex.specs.Hex.{digits_of}
+use Rattle.hexadecimal.specs.Hex.{digits_of}
 use Rattle.mnemonics.specs.Ascii.{ascii}
 use Rattle.numerals.specs.Numerals.{place_text, decimal}
 

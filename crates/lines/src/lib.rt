@@ -1,5 +1,7 @@
 // The lines of a listing, laid into lent memory. Each call takes the offset where it begins, and gives the one behind what it laid.
 // What has no room is left out.
+#![tactic(auto)]
+
 ghost use Rattle.std.specs.Prelude.{[], ◌∷◌, ◌≡◌};
 ghost use Rattle.page.specs.Page.{laid};
 ghost use Rattle.mnemonics.specs.Mnemonics.{name_of};
@@ -62,5 +64,5 @@ fn put_byte(text: &mut [u8], at: usize, byte: u8) -> usize
     ensures { (result, text.new) ≡ laid text.old at (spaced (byte ∷ [])) }
 {
     let spaced = page::put(text, at, b' ');
-    page::put_all(text, spaced, &hex::capital(byte))
+    page::put_all(text, spaced, &hexadecimal::capital(byte))
 }

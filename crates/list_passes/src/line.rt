@@ -85,5 +85,5 @@ fn put_digit(line: &mut [u8], at: usize, quotient: u64, unit: u64) -> usize {
     if quotient == 0 && FOURTH < unit {
         return at;
     }
-    page::put_all(line, at, &[hex::digit((quotient % 16) as u8)])
+    page::put_all(line, at, &[hexadecimal::digit((quotient % 16) as u8)])
 }

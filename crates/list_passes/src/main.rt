@@ -2,6 +2,7 @@
 // printed for each label and constant, with its id and its number after each pass, up to the pass that gives back what it read. So the
 // last two columns are equal. A tape whose form or names are refused gives the refused line alone; one that does not settle gives the
 // columns of all passes, and then the refused line.
+#![tactic(auto)]
 mod line;
 
 use form::LONGEST;

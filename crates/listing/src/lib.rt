@@ -1,5 +1,6 @@
 // The listing: a tape is built, and for each record that writes a line of its place, its bytes and its mnemonic goes into a lent text,
 // then a line of start, end and passes. A refused tape gives the refused line alone.
+#![tactic(auto)]
 ghost use Rattle.std.specs.Prelude.{◌≡◌, ◌≤◌, length};
 ghost use Rattle.pen.specs.Pens.{size};
 ghost use Rattle.page.specs.Page.{laid};
@@ -20,7 +21,7 @@ pub const TEXT: usize = 1310740;
 const SIZE: usize = 65536;
 
 // How long the text is, or the refusal.
-#[derive(Drop)]
+#[derive(Clone, Copy)]
 pub enum Listed {
     Text(usize),
     Refused(u8),

@@ -18,7 +18,7 @@ pub fn print_decimal(n: usize) {
 
 // Prints a byte in hexadecimal.
 fn print_byte(byte: u8) {
-    print(&hex::capital(byte));
+    print(&hexadecimal::capital(byte));
 }
 
 // Prints each of some bytes, a blank before each.

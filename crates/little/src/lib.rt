@@ -1,4 +1,6 @@
 // Little-endian numbers at an offset of a slice. Total: what lies past the end reads as zero.
+#![tactic(auto)]
+
 ghost use Rattle.std.specs.Prelude.{◌≡◌, get_or, take};
 ghost use Rattle.std.specs.Int.{w64};
 ghost use Rattle.std.proofs.Common.{to_z};

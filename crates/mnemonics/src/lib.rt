@@ -1,4 +1,6 @@
 // The letters of mnemonics, by their numbers, as a listing writes them.
+#![tactic(auto)]
+
 ghost use Rattle.std.specs.Prelude.{◌≡◌, ◌<◌};
 ghost use Rattle.mnemonics.specs.Ascii.{ascii};
 ghost use Rattle.mnemonics.specs.Mnemonics.{name_of};

@@ -1,5 +1,6 @@
 // The names of a tape: scopes, labels and constants are declared in tape order, and only then is each name record resolved, from the
 // scope in which it stands. Declaration k is node k, and its edge, edge k - 1, leaves the scope around it.
+#![tactic(auto)]
 ghost use Rattle.std.specs.Prelude.{◌≡◌, ◌+◌, ◌*◌, ◌≤◌, ◌<◌, length, replicate};
 ghost use Rattle.refusals.specs.AnswerAt.{Fine, Fault};
 ghost use Rattle.edges.specs.Edges.{max_edges};
@@ -19,21 +20,21 @@ use tape::{CLOSE_SCOPE, OPEN_SCOPE};
 const WIDTH: usize = 3;
 
 // The table of a tape's names, the root alone where the tape is refused; and the outcome.
-#[derive(Drop)]
+#[derive(Clone, Copy)]
 pub struct Declared {
     pub table: SymbolTable,
     pub answer: OutcomeAt,
 }
 
 // Between two records: how many names are declared, and the node of the innermost scope.
-#[derive(Drop)]
+#[derive(Clone, Copy)]
 struct Walk {
     names: usize,
     scope: u16,
 }
 
 // How many edges the names of a tape have, or the refusal.
-#[derive(Drop)]
+#[derive(Clone, Copy)]
 enum Filled {
     Edges(usize),
     Refused { number: u8, at: usize },

@@ -9,7 +9,7 @@ use lib.ListN.{length, length-append}
 use borrow.Author.Tests.{ltb-true}
 use Rattle.refusals.specs.Answer.{pick}
 use Rattle.refusals.proofs.Pick.{at_true, at_false}
-use Rattle.hex.specs.Hex.{digit_of}
+use Rattle.hexadecimal.specs.Hex.{digit_of}
 use Rattle.page.specs.Page.{laid}
 use Rattle.page.proofs.Laying.{nothing_laid, laid_then}
 use Rattle.numerals.specs.Numerals.{numeral}

@@ -2,7 +2,7 @@
 -- digits or more". Assumes nothing: these are definitions.
 use Rattle.std.specs.Prelude.{ℕ, zero, suc, ◌-◌, ◌/◌, ◌%◌, ◌&&◌, List, [], ◌∷◌, ◌++◌, ltb, leb}
 use Rattle.refusals.specs.Answer.{pick}
-use Rattle.hex.specs.Hex.{digit_of}
+use Rattle.hexadecimal.specs.Hex.{digit_of}
 
 -- a number to a base, of at most and at least so many digits, the highest first: the digits of its quotient by the base, then its
 -- remainder

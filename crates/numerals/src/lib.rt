@@ -1,7 +1,9 @@
 // Numbers in digits, laid into lent memory: places in hex, and decimal numbers. Each call takes the offset where it begins, and gives the
 // one behind what it laid. What has no room is left out.
+#![tactic(auto)]
+
 ghost use Rattle.std.specs.Prelude.{◌&&◌, [], ◌∷◌, ◌≡◌, ◌-◌, ◌≤◌, ◌<◌, ltb, leb};
-ghost use Rattle.hex.specs.Hex.{digit_of};
+ghost use Rattle.hexadecimal.specs.Hex.{digit_of};
 ghost use Rattle.page.specs.Page.{laid};
 ghost use Rattle.numerals.specs.Numerals.{numeral, place_text, decimal};
 
@@ -73,5 +75,5 @@ fn put_digit(text: &mut [u8], at: usize, n: usize) -> usize
     requires { n < 16 }
     ensures { (result, text.new) ≡ laid text.old at (digit_of n ∷ []) }
 {
-    page::put(text, at, hex::digit(n as u8))
+    page::put(text, at, hexadecimal::digit(n as u8))
 }

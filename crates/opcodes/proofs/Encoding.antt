@@ -8,7 +8,6 @@ use native.Mathlib.Omega.{arith}
 use native.Mathlib.Nat.{mod-lt, mod-eq_of_lt}
 use lib.IntN.{ℤ, pos, negsuc}
 use lib.ListN.{length}
-use borrow.Author.Tests.{not-true, not-false}
 use Rattle.refusals.specs.Answer.{Answer, Done, Refused, mapped, pick}
 use Rattle.refusals.specs.Table.{argument}
 use Rattle.int64.specs.Num.{mod_z}
@@ -70,16 +69,16 @@ module _ (f : Form) (fs : List Form) (y z : ℤ) (e : y ≡ z) where
   tried_rest h p q = rw (← e, ← h, p, q)
 
 module _ (m o s : ℕ) {r : Bool} (e : r ≡ in_range m o s) where
-  pub out_of_range : (z : ℤ) → not r ≡ true → Refused argument ≡ mapped code (encode_of m o s z)
+  pub out_of_range : (z : ℤ) → r ≡ false → Refused argument ≡ mapped code (encode_of m o s z)
   unfolding encode_of
-  out_of_range z n = rw (← e, not-true r n)
+  out_of_range z n = rw (← e, n)
 
   -- the row's forms are v
-  module _ {x : Forms} (v : Forms) (n : not r ≡ false) (h : listed x ≡ forms_of m o s) (p : x ≡ v) where
+  module _ {x : Forms} (v : Forms) (n : r ≡ true) (h : listed x ≡ forms_of m o s) (p : x ≡ v) where
     pub of_forms : (y z : ℤ) {a : Answer Code} → y ≡ z → a ≡ mapped code (encode_forms (listed v) y)
         → a ≡ mapped code (encode_of m o s z)
     unfolding encode_of
-    of_forms y z i q = rw (← e, not-false r n, ← h, p, ← i) q
+    of_forms y z i q = rw (← e, n, ← h, p, ← i) q
 
     pub short : Each short_form (listed v)
     short = rw (← p, h) (short_forms m o s)

@@ -8,7 +8,7 @@ use Prim.Native.Nat.{ℕ, ◌<◌, ◌≤◌}
 use native.Mathlib.Omega.{arith}
 use lib.Dec.{T, ltb, eqb, lit<}
 use lib.ListN.{get_or, get_or-eq_default}
-use borrow.Author.Tests.{ltb-true, ltb-false, ne_eqb, not-true, not-false}
+use borrow.Author.Tests.{ltb-true, ltb-false, ne_eqb}
 use Rattle.refusals.specs.Each.{Each}
 use Rattle.opcodes.specs.declared.Form.{Form}
 use Rattle.opcodes.specs.Manual.{Mode, acc, imm, zp, zp_x, zp_y, abs, abs_x, abs_y, imp, rel, ind_x, ind_y, ind, Entry, ◌is◌, written, is_written, operand_bytes, keep, pages, forms_in, forms_of}
@@ -47,10 +47,10 @@ one_of_three false b c e = inl refl
 one_of_three true false c e = inr (inl refl)
 one_of_three true true c e = inr (inr e)
 
-pub ranges : (m o s : ℕ) {r : Bool} → r ≡ in_range m o s → not r ≡ false → (m < 56) × (o < 5) × (s < 3)
+pub ranges : (m o s : ℕ) {r : Bool} → r ≡ in_range m o s → r ≡ true → (m < 56) × (o < 5) × (s < 3)
 unfolding in_range
 ranges m o s {r} e n =
-    let t = (and-eq-true_iff (ltb m 56) (ltb o 5 && ltb s 3)).0 (sym e ∙ not-false r n) in
+    let t = (and-eq-true_iff (ltb m 56) (ltb o 5 && ltb s 3)).0 (sym e ∙ n) in
     let u = (and-eq-true_iff (ltb o 5) (ltb s 3)).0 t.1 in
     (ltb-true m 56 t.0, ltb-true o 5 u.0, ltb-true s 3 u.1)
 
@@ -73,13 +73,13 @@ no_suffix m o s h =
     (λ k. rw (ne_eqb (written k).suffix s (λ e. omega (arith, suffix_limit k))) (and-false (eqb (written k).mode o)))
     (get_or pages m [])
 
-pub beyond : (m o s : ℕ) {r : Bool} → r ≡ in_range m o s → not r ≡ true → [] ≡ forms_of m o s
+pub beyond : (m o s : ℕ) {r : Bool} → r ≡ in_range m o s → r ≡ false → [] ≡ forms_of m o s
 unfolding in_range
 beyond m o s {r} e n =
     sym
     (⊎_elim (λ p. no_page m o s (ltb-false m 56 p))
     (⊎_elim (λ p. no_mode m o s (ltb-false o 5 p)) (λ p. no_suffix m o s (ltb-false s 3 p)))
-    (one_of_three (ltb m 56) (ltb o 5) (ltb s 3) (sym e ∙ not-true r n)))
+    (one_of_three (ltb m 56) (ltb o 5) (ltb s 3) (sym e ∙ n)))
 
 -- ---- at most two operand bytes
 

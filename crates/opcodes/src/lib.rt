@@ -1,5 +1,7 @@
 // The 6502's opcodes: what forms a row has, and an instruction's bytes. A row is a mnemonic, a mode and a suffix, in document 01's
 // numbers. `forms_of` alone knows the packed tables: everything else goes through it.
+#![tactic(auto)]
+
 mod tables;
 
 ghost use Rattle.std.specs.Prelude.{◌≡◌, ◌∷◌, [], ◌<◌};
@@ -13,14 +15,14 @@ use refusals::{ARGUMENT, NO_ROW, TOO_SMALL};
 use tables::{BYTES, Words};
 
 // An opcode, and how many operand bytes stand behind it.
-#[derive(Drop)]
+#[derive(Clone, Copy)]
 pub struct Form {
     pub opcode: u8,
     pub operand: u8,
 }
 
 // A row's forms, in the order tried.
-#[derive(Drop)]
+#[derive(Clone, Copy)]
 pub enum Forms {
     None,
     One(Form),
@@ -28,7 +30,7 @@ pub enum Forms {
 }
 
 // How many bytes, and the bytes, zero behind them.
-#[derive(Drop)]
+#[derive(Clone, Copy)]
 pub struct Code {
     pub len: u8,
     pub b0: u8,
@@ -37,7 +39,7 @@ pub struct Code {
 }
 
 // An instruction's bytes, or a refusal.
-#[derive(Drop)]
+#[derive(Clone, Copy)]
 pub enum Encoded {
     Bytes(Code),
     Refused(u8),

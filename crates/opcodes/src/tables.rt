@@ -8,7 +8,7 @@ ghost use Rattle.opcodes.specs.Packed.{shapes_of, opcodes_of};
 // bytes; 4 a form of one and a form of two operand bytes, whose opcode is 8 more.
 // Opcodes, in eight bytes: Implied, Immediate, AbsoluteOrZp, AbsoluteOrZp X, AbsoluteOrZp Y, Indirect X, OuterIndirect, OuterIndirect Y.
 // Where a row has two forms, the shorter form's.
-#[derive(Drop)]
+#[derive(Clone, Copy)]
 pub struct Words(pub u64, pub u64);
 
 // Which byte of the opcodes a mode and suffix have, counted from the right, in digits as shapes are; 0 for those that no row has.

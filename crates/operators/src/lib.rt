@@ -1,5 +1,7 @@
 // The operators of a tape, which are those of the Rust's `BinaryOp`, and the flag NOT: comparisons and truth values, as 0 or 1, and the
 // operator of a number. What an operator computes with is int64.
+#![tactic(auto)]
+
 ghost use Rattle.std.specs.Prelude.{◌≡◌, not, ◌&&◌, ◌||◌};
 ghost use Rattle.std.specs.Int.Signed.{lt_z, le_z};
 ghost use Rattle.int64.specs.Num.{eq_z};

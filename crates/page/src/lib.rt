@@ -1,5 +1,7 @@
 // Bytes that are laid one behind the other into lent memory, for programs that make tapes and lines: each call takes the offset where it
 // begins, and gives the one behind what it laid. What has no room is left out.
+#![tactic(auto)]
+
 ghost use Rattle.std.specs.Prelude.{[], ◌∷◌, ◌≡◌, take};
 ghost use Rattle.page.specs.Page.{laid, repeated, same, digit_in, pair, following, bytes_in};
 ghost use Rattle.page.specs.Steps.{below16};

@@ -1,5 +1,6 @@
 // The passes over a tape whose names have been resolved: each walks the tape from the initial place, reads the numbers that the pass
 // before it gave, and gives new ones, until a pass gives back what it read.
+#![tactic(auto)]
 ghost use Rattle.std.specs.Prelude.{true, [], ◌∷◌, ◌≡◌, ◌+◌, ◌<◌, ◌^◌, length, get_or};
 ghost use Rattle.refusals.specs.AnswerAt.{Fault};
 ghost use Rattle.opcodes.specs.Says.{listed};
@@ -29,14 +30,14 @@ pub const LIMIT: usize = 16;
 const LAST_PLACE: usize = 65536;
 
 // How many passes there were, or the refusal.
-#[derive(Drop)]
+#[derive(Clone, Copy)]
 pub enum Passes {
     After(usize),
     Refused { number: u8, at: usize },
 }
 
 // The same, and the numbers that the last pass gave back.
-#[derive(Drop)]
+#[derive(Clone, Copy)]
 pub struct Settled {
     pub answer: Passes,
     pub numbers: Numbers,

@@ -126,7 +126,7 @@ module _ (a b : ℕ) (h : a < 2 ^ 63) (k : b < 2 ^ 63) where
 -- ---- the range
 
 -- the part that the range covers: none before the first emit
-module _ (p : Pen) (image : List ℕ) {t : Bool} (e : t ≡ sound_over p (length image)) (passes : not t ≡ false) where
+module _ (p : Pen) (image : List ℕ) {t : Bool} (e : t ≡ sound_over p (length image)) (passes : t ≡ true) where
   pub part_none : not p.emitted ≡ true → [] ≡ part_of (range_data p image)
   unfolding range_data of_both
   part_none h = ap part_of (ap Done (at_false _ _ (not-true p.emitted h)) ∙ passed _ _ e passes)

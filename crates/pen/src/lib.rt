@@ -2,6 +2,8 @@
 // names. The pen is a small struct; the image stands beside it, so that writing one byte costs one byte. The
 // calls that move it and write are in the crate segment. A call on a pen or an image that is not sound is
 // refused (1); is_sound, is_sound_over and has_room only tell.
+#![tactic(auto)]
+
 ghost use Rattle.std.specs.Prelude.{◌≡◌, ◌≤◌, pos, ◌-ℤ◌};
 ghost use Rattle.refusals.specs.Answer.{outcome};
 ghost use Rattle.int64.specs.Says.{says};
@@ -20,7 +22,7 @@ pub const SIZE: usize = 65536;
 
 // Where the next byte goes (place), where a reset goes back to (initial), what place the code is meant for when it starts there
 // (target), what is written so far (start up to, but not including, end), and whether anything was emitted.
-#[derive(Drop)]
+#[derive(Clone, Copy)]
 pub struct Pen {
     pub place: usize,
     pub initial: usize,
@@ -30,7 +32,7 @@ pub struct Pen {
     pub emitted: bool,
 }
 
-#[derive(Drop)]
+#[derive(Clone, Copy)]
 pub enum NewPen {
     Is(Pen),
     Refused(u8),

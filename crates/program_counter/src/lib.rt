@@ -1,5 +1,7 @@
 // Places of the 6502's memory, 0 to 65,536 (one past the last byte), under the Rust's names. A place outside that, handed in
 // or reached by a sum or a difference, is refused (1).
+#![tactic(auto)]
+
 ghost use Rattle.std.specs.Prelude.{◌≡◌, ◌≤◌};
 ghost use Rattle.int64.specs.Says.{says};
 ghost use Rattle.program_counter.specs.Place.{place, sum, difference, low16, le_bytes, as_i64, empty_range};
@@ -12,35 +14,35 @@ use refusals::ARGUMENT;
 const LAST: usize = 65536;
 
 // A place.
-#[derive(Drop)]
+#[derive(Clone, Copy)]
 pub struct ProgramCounter(pub usize);
 
 // From start up to, but not including, end.
-#[derive(Drop)]
+#[derive(Clone, Copy)]
 pub struct Range {
     pub start: usize,
     pub end: usize,
 }
 
-#[derive(Drop)]
+#[derive(Clone, Copy)]
 pub enum Place {
     At(ProgramCounter),
     Refused(u8),
 }
 
-#[derive(Drop)]
+#[derive(Clone, Copy)]
 pub enum Short {
     Is(u16),
     Refused(u8),
 }
 
-#[derive(Drop)]
+#[derive(Clone, Copy)]
 pub enum LeBytes {
     Are(u8, u8),
     Refused(u8),
 }
 
-#[derive(Drop)]
+#[derive(Clone, Copy)]
 pub enum Extent {
     Is(Range),
     Refused(u8),

@@ -1,6 +1,7 @@
 // The lines of a tape whose names are resolved and whose numbers are settled: every statement is tried; then a line of its place, its bytes
 // and its mnemonic for each record that writes goes into a lent text, and one of start, end and passes. A refused statement gives the
 // refused line alone.
+#![tactic(auto)]
 ghost use Rattle.std.specs.Prelude.{[], ◌≡◌, ◌≤◌, pos, length, get_or};
 ghost use Rattle.std.proofs.Math.Option.{none};
 ghost use Rattle.refusals.specs.Answer.{pick};

@@ -1,20 +1,19 @@
 -- What a function's answer says of the test that it tells, and which side `pick` takes then. Assumes nothing.
-use mathlib.Core.Bool.{Bool, true, false, not}
+use mathlib.Core.Bool.{Bool, true, false}
 use mathlib.Core.Path.{◌≡◌, refl, sym, ap, ◌∙◌}
 use Prim.Native.Nat.{ℕ}
-use borrow.Author.Tests.{not-true, not-false}
 use Rattle.refusals.specs.Answer.{Answer, Done, Refused, pick}
 use Rattle.refusals.proofs.Never.{never}
 
--- ---- around `if !r { .. }`, where r tells the test t
+-- ---- around an `if`, where r tells the test t
 
--- behind it, the test holds
-pub granted : {r t : Bool} → r ≡ t → not r ≡ false → t ≡ true
-granted {r} e h = sym e ∙ not-false r h
+-- where r is true, the test holds
+pub granted : {r t : Bool} → r ≡ t → r ≡ true → t ≡ true
+granted e h = sym e ∙ h
 
--- inside it, it does not
-pub denied : {r t : Bool} → r ≡ t → not r ≡ true → t ≡ false
-denied {r} e h = sym e ∙ not-true r h
+-- where it is false, it does not
+pub denied : {r t : Bool} → r ≡ t → r ≡ false → t ≡ false
+denied e h = sym e ∙ h
 
 -- ---- the side
 
@@ -25,10 +24,10 @@ module _ {A : Type 0} (a b : A) {t : Bool} where
   pub at_false : t ≡ false → b ≡ pick t a b
   at_false h = simp h refl
 
-  pub passed : {r : Bool} → r ≡ t → not r ≡ false → a ≡ pick t a b
+  pub passed : {r : Bool} → r ≡ t → r ≡ true → a ≡ pick t a b
   passed e h = at_true (granted e h)
 
-  pub stopped : {r : Bool} → r ≡ t → not r ≡ true → b ≡ pick t a b
+  pub stopped : {r : Bool} → r ≡ t → r ≡ false → b ≡ pick t a b
   stopped e h = at_false (denied e h)
 
 -- ---- what was done

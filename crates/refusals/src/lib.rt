@@ -1,4 +1,6 @@
 // Document 01's "Numbers a call may answer", each under its name. Every refusal of every crate is one of these.
+#![tactic(auto)]
+
 ghost use Rattle.std.specs.Prelude.{◌≡◌};
 ghost use Rattle.refusals.specs.Table.{numbers};
 
@@ -39,14 +41,14 @@ pub const NUMBER_DIFFERS: u8 = 17;
 pub const BYTES_DIFFER: u8 = 18;
 
 // What a call answers that hands over nothing but whether it was done.
-#[derive(Drop)]
+#[derive(Clone, Copy)]
 pub enum Outcome {
     Done,
     Refused(u8),
 }
 
 // The same of a call on a tape: a refusal has its number, and the offset of the record at fault.
-#[derive(Drop)]
+#[derive(Clone, Copy)]
 pub enum OutcomeAt {
     Done,
     Refused { number: u8, at: usize },

@@ -1,5 +1,6 @@
 // Answers each question of 16 bytes on standard input: a branch's place and its target, an i64 each.
 // An answer is the operand byte in capital hex, or `refused`, on a line of its own.
+#![tactic(auto)]
 use branch::Distance;
 use libc::{STDIN_FILENO, STDOUT_FILENO};
 
@@ -7,7 +8,7 @@ use libc::{STDIN_FILENO, STDOUT_FILENO};
 fn print_answer(answer: Distance) {
     match answer {
         Distance::Byte(b) => {
-            io::write_all(STDOUT_FILENO, &hex::capital(b));
+            io::write_all(STDOUT_FILENO, &hexadecimal::capital(b));
         }
         Distance::Refused(_) => {
             io::write_all(STDOUT_FILENO, b"refused");

@@ -2,6 +2,7 @@
 // bytes go behind the tape; how often), any other build (how many of them end the tape; initial place), after which the tape is
 // empty. The tape is kept from question to question. An answer is a line: `done`; or `refused`, document 01's number, `at` and the
 // offset; or `finished`, start, end and passes, the numbers behind `:`, and behind another `:` a checksum of the whole image.
+#![tactic(auto)]
 use builder::Built;
 use libc::{STDIN_FILENO, STDOUT_FILENO};
 use symbols::NODES;
@@ -17,7 +18,7 @@ const ROOM: usize = 100000;
 const MORE: u8 = 0;
 
 // How long the tape is after a question, and whether there was one.
-#[derive(Drop)]
+#[derive(Clone, Copy)]
 struct Turn {
     length: usize,
     more: bool,

@@ -4,6 +4,7 @@
 // bytes; how often); any other check (initial place, and the start in the first four of the 58 bytes), after which there are no
 // numbers and no covered bytes. All three are kept from question to question. An answer is a line: `done`, `accepted`, or `refused`,
 // document 01's number, `at` and the offset.
+#![tactic(auto)]
 use checker::Checked;
 use libc::{STDIN_FILENO, STDOUT_FILENO};
 
@@ -27,7 +28,7 @@ const NUMBERS: u8 = 2;
 const BYTES: u8 = 3;
 
 // How much there is of tape, list and covered bytes.
-#[derive(Drop)]
+#[derive(Clone, Copy)]
 struct Lengths {
     tape: usize,
     list: usize,
@@ -35,7 +36,7 @@ struct Lengths {
 }
 
 // The lengths after a question, and whether there was one.
-#[derive(Drop)]
+#[derive(Clone, Copy)]
 struct Turn {
     lengths: Lengths,
     more: bool,

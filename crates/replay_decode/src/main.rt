@@ -1,6 +1,7 @@
 // Answers each question of 4 bytes on standard input: how many bytes there are, 0 to 3, and three bytes, of which that many are
 // decoded. An answer is mnemonic, mode, suffix, operand length and operand in decimal, or `refused` and the refusal's number,
 // on a line of its own.
+#![tactic(auto)]
 use inverse::{Decoded, Row};
 use libc::{STDIN_FILENO, STDOUT_FILENO};
 

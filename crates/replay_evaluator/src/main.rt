@@ -1,6 +1,7 @@
 // Answers, as the Rust would, each question of 17 bytes on standard input: an operation, and two i64. Operations 0 to 15 are
 // the tape's operators; 16 is NOT, 17 NEG, 18 NOT and then NEG, 19 the low byte and 20 the high byte of the first number.
 // An answer is a number in decimal, or `refused` where the Rust panics, on a line of its own.
+#![tactic(auto)]
 use int64::Number;
 use libc::{STDIN_FILENO, STDOUT_FILENO};
 

@@ -4,6 +4,7 @@
 // current place; how many of the twenty bytes end the expression). Id 0 is super. The table and an unfinished expression are kept
 // from question to question. An answer is a line: `done`, a node, a number, or `refused`, document 01's number, `at` and the
 // offset.
+#![tactic(auto)]
 use evaluator::Evaluated;
 use libc::{STDIN_FILENO, STDOUT_FILENO};
 use symbols::{Data, Inserted, Node, SymbolTable};
@@ -16,7 +17,7 @@ const INSERT: u8 = 1;
 const MORE: u8 = 2;
 
 // The table and the expression's length after a question, and whether there was one.
-#[derive(Drop)]
+#[derive(Clone, Copy)]
 struct Turn {
     table: SymbolTable,
     length: usize,

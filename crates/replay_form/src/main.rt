@@ -2,6 +2,7 @@
 // bytes; 1 append (how many of the ten bytes; how often), 2 form and 3 expression_form (a byte; how many bytes of the tape; and
 // in the first four of the ten bytes the offset at which the byte stands instead). The tape is kept from question to question.
 // An answer is a line: `done`, or `refused`, document 01's number, `at` and the offset.
+#![tactic(auto)]
 use libc::{STDIN_FILENO, STDOUT_FILENO};
 use refusals::OutcomeAt;
 
@@ -13,7 +14,7 @@ const APPEND: u8 = 1;
 const FORM: u8 = 2;
 
 // How long the tape is after a question, and whether there was one.
-#[derive(Drop)]
+#[derive(Clone, Copy)]
 struct Turn {
     length: usize,
     more: bool,

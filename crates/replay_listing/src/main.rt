@@ -2,6 +2,7 @@
 // bytes go behind the tape; how often), any other list (how many of them end the tape; initial place), after which the tape is
 // empty. The tape is kept from question to question. An answer is a line: `done`; or the lines of the listing with `; ` between two;
 // or, where its text is long, its length, a checksum of it and its last line, with ` : ` between two.
+#![tactic(auto)]
 use libc::{STDIN_FILENO, STDOUT_FILENO};
 use listing::Listed;
 
@@ -22,7 +23,7 @@ const SHORT: usize = 200;
 const NEWLINE: u8 = 10;
 
 // How long the tape is after a question, and whether there was one.
-#[derive(Drop)]
+#[derive(Clone, Copy)]
 struct Turn {
     length: usize,
     more: bool,

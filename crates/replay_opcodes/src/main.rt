@@ -1,17 +1,18 @@
 // Answers, as the Rust would, each question of 11 bytes on standard input: mnemonic, mode, suffix, and the operand as an i64.
 // An answer is the instruction's bytes in capital hex, or `refused` (the Rust does not say why), on a line of its own.
+#![tactic(auto)]
 use libc::{STDIN_FILENO, STDOUT_FILENO};
 use opcodes::{Code, Encoded};
 
 // Prints a byte with a space before it.
 fn print_further(b: u8) {
     io::write_all(STDOUT_FILENO, b" ");
-    io::write_all(STDOUT_FILENO, &hex::capital(b));
+    io::write_all(STDOUT_FILENO, &hexadecimal::capital(b));
 }
 
 // Prints an instruction's bytes.
 fn print_code(code: Code) {
-    io::write_all(STDOUT_FILENO, &hex::capital(code.b0));
+    io::write_all(STDOUT_FILENO, &hexadecimal::capital(code.b0));
     if 1 < code.len {
         print_further(code.b1);
     }

@@ -6,6 +6,7 @@
 // Each of the first four is also done from the same pen with one that is held and lent, into an image of its own: reset, set_pc and
 // emit are then the calls that change a pen where it is, and new is the same. Behind the answer stands ` differs` if the two pens
 // afterwards or the two answers are not the same, numbers included, and behind that of range_data if the two images are not.
+#![tactic(auto)]
 use int64::Number;
 use libc::{STDIN_FILENO, STDOUT_FILENO};
 use pen::{NewPen, Pen};
@@ -14,7 +15,7 @@ use refusals::Outcome;
 use segment::Drawn;
 
 // The pen after a question, and whether there was one.
-#[derive(Drop)]
+#[derive(Clone, Copy)]
 struct Turn {
     pen: Pen,
     more: bool,

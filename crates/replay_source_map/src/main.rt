@@ -2,6 +2,7 @@
 // span, place, length), 2 clear, 3 move_offsets (scope, new scope, new span), 4 address_to_offset, 5 len, 6 entry (its number).
 // The map is kept from question to question. An answer is a line: a number, the four numbers of an entry, `nothing` where no
 // entry holds the address, `refused` where the Rust panics, and `done` for the others.
+#![tactic(auto)]
 use libc::{STDIN_FILENO, STDOUT_FILENO};
 use refusals::Outcome;
 use source_map::{Count, Entry, Found, OneEntry};

@@ -4,6 +4,7 @@
 // four ids), 5 get (node), 6 child (node, id), 7 parent (node), 8 try_index, 9 query and 10 query_all (node; how many ids; four
 // ids). Id 0 is super. The table is kept from question to question. An answer is a line: a node or `nothing`, a number or
 // `unresolved`, `done`, of query_all the count and the nodes, or `refused` and document 01's number.
+#![tactic(auto)]
 use libc::{STDIN_FILENO, STDOUT_FILENO};
 use questions::Got;
 use refusals::Outcome;
@@ -11,7 +12,7 @@ use scopes::{Count, Found};
 use symbols::{Changed, Data, Inserted, Node, SymbolTable};
 
 // A question without its path: the operation, a node, another node or an id, and a number or none.
-#[derive(Drop)]
+#[derive(Clone, Copy)]
 struct Asked {
     operation: u8,
     nx: u16,
@@ -20,7 +21,7 @@ struct Asked {
 }
 
 // The table after a question, and whether there was one.
-#[derive(Drop)]
+#[derive(Clone, Copy)]
 struct Turn {
     table: SymbolTable,
     more: bool,

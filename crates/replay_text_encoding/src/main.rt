@@ -1,4 +1,5 @@
 // Answers, as the Rust would, each byte of standard input: its Petscreen byte, in capital hex on a line of its own.
+#![tactic(auto)]
 use libc::{STDIN_FILENO, STDOUT_FILENO};
 
 // Answers one question; whether there was one.
@@ -7,7 +8,7 @@ fn answer() -> bool {
     if io::read_full(STDIN_FILENO, &mut question) < 1 {
         return false;
     }
-    let digits = hex::capital(text_encoding::petscreen(question[0]));
+    let digits = hexadecimal::capital(text_encoding::petscreen(question[0]));
     io::write_all(STDOUT_FILENO, &digits);
     io::write_all(STDOUT_FILENO, b"\n")
 }

@@ -1,5 +1,7 @@
 // The query from a scope outward: the innermost scope in which the whole path resolves wins. A table's edges are lent; a table that
 // is not sound, a node that it has not, and a path of more than 4 ids are refused (1).
+#![tactic(auto)]
+
 ghost use Rattle.std.specs.Prelude.{◌≡◌, ◌+◌, ◌<◌, length, replicate};
 ghost use Rattle.refusals.specs.Answer.{mapped, Done};
 ghost use Rattle.refusals.specs.Memory.{over};
@@ -15,7 +17,7 @@ use refusals::ARGUMENT;
 use soundness::is_node;
 
 // The node that a look-up finds, if it finds one, or the refusal.
-#[derive(Drop)]
+#[derive(Clone, Copy)]
 pub enum Found {
     At(u16),
     Nothing,
@@ -23,14 +25,14 @@ pub enum Found {
 }
 
 // How many answers there are, or the refusal.
-#[derive(Drop)]
+#[derive(Clone, Copy)]
 pub enum Count {
     Is(usize),
     Refused(u8),
 }
 
 // How many answers are written, and how many scopes wait for one.
-#[derive(Drop)]
+#[derive(Clone, Copy)]
 struct Tally {
     written: usize,
     waiting: usize,

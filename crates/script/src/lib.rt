@@ -1,5 +1,7 @@
 // Case files: text of which each line is a command and its words. A program asks for a line by its number, and for its words. Total:
 // what is not there is empty, or 0.
+#![tactic(auto)]
+
 ghost use Rattle.std.specs.Prelude.{◌≡◌, ◌≤◌, eqb, length};
 ghost use Rattle.refusals.specs.Answer.{pick};
 ghost use Rattle.script.specs.Parts.{until, from, starts};

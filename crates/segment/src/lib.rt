@@ -2,6 +2,8 @@
 // reset, set_pc and emit are here functions that take a pen and give one; those of the crate lent_pen change
 // a pen that is lent. What a pen is, and what is read of it, is in the crate pen. A call on a pen or an image
 // that is not sound is refused (1), and a refused call changes nothing.
+#![tactic(auto)]
+
 ghost use Rattle.std.specs.Prelude.{◌≡◌, ◌+◌, ◌≤◌, min, max, length};
 ghost use Rattle.refusals.specs.Answer.{Done, Refused};
 ghost use Rattle.refusals.specs.Memory.{over};
@@ -12,7 +14,7 @@ use pen::{Pen, SIZE, begin};
 use refusals::{ARGUMENT, OUTSIDE, Outcome};
 
 // The pen after a call, and what the call answers.
-#[derive(Drop)]
+#[derive(Clone, Copy)]
 pub struct Drawn {
     pub pen: Pen,
     pub answer: Outcome,

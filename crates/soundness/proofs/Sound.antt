@@ -12,7 +12,7 @@ use native.Mathlib.Omega.{arith}
 use lib.Dec.{eqb, leb, ltb}
 use lib.ListN.{length, get_or, set, replicate, length-replicate}
 use lib.Seq.{get_or-set_same, get_or-set_other}
-use borrow.Author.Tests.{lt-ltb, leb-true, le-leb, lt-leb, eqb-true, eqb-false, ne_eqb, not-true, not-false}
+use borrow.Author.Tests.{lt-ltb, leb-true, le-leb, lt-leb, eqb-true, eqb-false, ne_eqb}
 use Rattle.refusals.proofs.Never.{never}
 use Rattle.refusals.proofs.Pick.{granted, denied}
 use Rattle.edges.specs.declared.Edge.{Edge}
@@ -40,11 +40,11 @@ module _ (links : List ℕ) (n : ℕ) {i : ℕ} {e : Edge} {r : Bool}
       ap (λ (k : ℕ). all_fit n (edges_in links k)) one
       ∙ ap (λ (b : Bool). b && all_fit n (edges_in links (i - 1))) (sym (told ∙ ap (fits n) is))
 
-  pub last_bad : not r ≡ true → all_fit n (edges_in links i) ≡ false
-  last_bad bad = last_edge_lem ∙ simp (not-true r bad)
+  pub last_bad : r ≡ false → all_fit n (edges_in links i) ≡ false
+  last_bad bad = last_edge_lem ∙ simp bad
 
-  pub last_good : not r ≡ false → all_fit n (edges_in links i) ≡ all_fit n (edges_in links (i - 1))
-  last_good good = last_edge_lem ∙ simp (not-false r good)
+  pub last_good : r ≡ true → all_fit n (edges_in links i) ≡ all_fit n (edges_in links (i - 1))
+  last_good good = last_edge_lem ∙ simp good
 
 pub no_edges : (links : List ℕ) (n i : ℕ) → i ≤ 0 → all_fit n (edges_in links i) ≡ true
 unfolding edges_in all_fit
@@ -301,19 +301,19 @@ reach_begins es {seen} fresh =
     }
 
 -- one node more
-pub reach_goes : {es : List Edge} {s : ℕ} {seen seen' : List ℕ} {r : Bool} → Reached es s seen → not r ≡ false
+pub reach_goes : {es : List Edge} {s : ℕ} {seen seen' : List ℕ} {r : Bool} → Reached es s seen → r ≡ true
     → (r ≡ rooted es s) × (r ≡ true → Known es (s + 1) seen') → Reached es (s + 1) seen'
 unfolding all_below
 reach_goes {s = s} {r = r} before good walk = record {
   all = rw (add-one s) (λ i. granted walk.0 good i && before.all i);
-  known = walk.1 (not-false r good);
+  known = walk.1 good;
 }
 
 -- one node that fails
 bad_below : (f : ℕ → Bool) (n i : ℕ) → i < n → f i ≡ false → all_below n f ≡ false
 bad_below f n i below bad = (not-eq-not {b = false}).0 (λ all. let good = all_at n f all i below in never (cc))
 
-pub reach_fails : (es : List Edge) {n s : ℕ} {r : Bool} → s < n → not r ≡ true → r ≡ rooted es s
+pub reach_fails : (es : List Edge) {n s : ℕ} {r : Bool} → s < n → r ≡ false → r ≡ rooted es s
     → false ≡ all_below n (rooted es)
 reach_fails es {n} {s} below bad walk = sym (bad_below (rooted es) n s below (denied walk bad))
 

@@ -1,5 +1,7 @@
 // Whether a table is sound, in as many steps as it has nodes and edges: each edge is read twice at most, and the walks up from
 // all nodes mark each node once.
+#![tactic(auto)]
+
 ghost use Rattle.std.specs.Prelude.{true, List, ◌≡◌, ℕ, ◌+◌, ◌<◌, ◌≤◌, length, replicate};
 ghost use Rattle.edges.specs.declared.Edge.{Edge};
 ghost use Rattle.edges.specs.Edges.{max_nodes, max_edges, edges_in};

@@ -2,6 +2,8 @@
 // map lives in lent memory of 16,385 words: how many entries there are, and then the entries in the order of adding, four words
 // each; all zero is the empty map. So to add one entry writes one entry. A call on memory that is no sound map is refused (1),
 // and a refused call changes nothing.
+#![tactic(auto)]
+
 ghost use Rattle.std.specs.Prelude.{true, ◌≡◌, ◌+◌, ◌*◌, ◌≤◌, length};
 ghost use Rattle.refusals.specs.Answer.{outcome, pick};
 ghost use Rattle.refusals.specs.Memory.{over};
@@ -28,7 +30,7 @@ const LAST_SCOPE: u32 = 1023;
 const SIZE: u32 = 65536;
 
 // The bytes from pc on, len of them, came from this span of the source, in this scope.
-#[derive(Drop)]
+#[derive(Clone, Copy)]
 pub struct Entry {
     pub scope: u32,
     pub span: u32,
@@ -36,19 +38,19 @@ pub struct Entry {
     pub len: u32,
 }
 
-#[derive(Drop)]
+#[derive(Clone, Copy)]
 pub enum Count {
     Is(usize),
     Refused(u8),
 }
 
-#[derive(Drop)]
+#[derive(Clone, Copy)]
 pub enum OneEntry {
     Is(Entry),
     Refused(u8),
 }
 
-#[derive(Drop)]
+#[derive(Clone, Copy)]
 pub enum Found {
     Offset(Entry),
     Nothing,

@@ -1,6 +1,7 @@
 // The symbol table, under the Rust's names: nodes, numbered as they are made, joined by edges with names. The nodes below a node
 // are its scope. A table is plain data and goes in and comes back by value; inside a call, look-ups lend its edges and copy
 // nothing. A call on a table that is not sound is refused (1), and a refused call changes nothing.
+#![tactic(auto)]
 ghost use Rattle.std.specs.Prelude.{◌≡◌, ◌+◌, ◌<◌, ◌≤◌, length};
 ghost use Rattle.refusals.specs.Answer.{Done, Refused};
 ghost use Rattle.edges.specs.Edges.{max_nodes, max_edges};
@@ -21,7 +22,7 @@ pub const WORDS: usize = edges::WORDS;
 
 // How many nodes and edges there are; the edges in the order of adding, three words each; and of each node whether it has a
 // number, and which.
-#[derive(Drop)]
+#[derive(Clone, Copy)]
 pub struct SymbolTable {
     pub nodes: usize,
     pub edges: usize,
@@ -31,35 +32,35 @@ pub struct SymbolTable {
 }
 
 // What a node has: a number, or none yet.
-#[derive(Drop)]
+#[derive(Clone, Copy)]
 pub enum Data {
     Number(i64),
     Unresolved,
 }
 
 // A node, or the refusal.
-#[derive(Drop)]
+#[derive(Clone, Copy)]
 pub enum Node {
     Is(u16),
     Refused(u8),
 }
 
 // The table after a call, and what the call answers.
-#[derive(Drop)]
+#[derive(Clone, Copy)]
 pub struct Changed {
     pub table: SymbolTable,
     pub answer: Outcome,
 }
 
 // The table after a call, and the node that the call gives.
-#[derive(Drop)]
+#[derive(Clone, Copy)]
 pub struct Inserted {
     pub table: SymbolTable,
     pub answer: Node,
 }
 
 // The table with new nodes, and the deepest of them.
-#[derive(Drop)]
+#[derive(Clone, Copy)]
 struct Grown {
     table: SymbolTable,
     node: u16,

@@ -8,7 +8,7 @@ const EDGES: usize = 2048;
 const IDS: usize = 5;
 
 // A table, and a path of so many ids.
-#[derive(Drop)]
+#[derive(Clone, Copy)]
 pub struct State {
     pub table: SymbolTable,
     pub ids: [u16; IDS],

@@ -1,4 +1,6 @@
 // The records of a tape: one byte of kind, then a body whose length the kind fixes.
+#![tactic(auto)]
+
 ghost use Rattle.std.specs.Prelude.{◌≡◌, length};
 ghost use Rattle.refusals.specs.AnswerAt.{mapped};
 ghost use Rattle.tape.specs.Kinds.{size_of, is_expression, is_statement, is_name};
@@ -47,7 +49,7 @@ pub const SCREEN_BYTE: u8 = 0x49;
 pub const END: u8 = 0x4f;
 
 // The length of the record at an offset, or what is wrong there.
-#[derive(Drop)]
+#[derive(Clone, Copy)]
 pub enum Found {
     Whole(usize),
     Refused { number: u8, at: usize },

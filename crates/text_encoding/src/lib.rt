@@ -1,5 +1,7 @@
 // Text for the display boards. Of the Rust's three encodings only Petscreen is carried over, from a Petscii byte to a screen
 // byte: one match, each arm a plain formula.
+#![tactic(auto)]
+
 ghost use Rattle.std.specs.Prelude.{◌≡◌};
 ghost use Rattle.text_encoding.specs.Petscreen.{petscreen_of};
 

@@ -113,12 +113,12 @@ module _ {m o s m' o' s' : ℕ} (em : m ≡ m') (eo : o ≡ o') (es : s ≡ s') 
   branch_is h = h ∙ (λ i. is_branch (em i) (eo i) (es i))
 
 module _ (m o s : ℕ) (place z : ℤ) {t : Bool} (is : t ≡ is_branch m o s) where
-  pub no_branch : not t ≡ true → {y : ℤ} → y ≡ z → {a : Answer Code} → a ≡ mapped code (encode_of m o s y)
+  pub no_branch : t ≡ false → {y : ℤ} → y ≡ z → {a : Answer Code} → a ≡ mapped code (encode_of m o s y)
       → a ≡ mapped code (instruction_of m o s place z)
   unfolding instruction_of
   no_branch n e h = h ∙ ap (λ (x : ℤ). mapped code (encode_of m o s x)) e ∙ ap (mapped code) (stopped _ _ is n)
 
-  module _ (n : not t ≡ false) {p y : ℤ} (ep : p ≡ place) (ey : y ≡ z) (d : B.Distance) (told : says_distance d ≡ distance_of p y) where
+  module _ (n : t ≡ true) {p y : ℤ} (ep : p ≡ place) (ey : y ≡ z) (d : B.Distance) (told : says_distance d ≡ distance_of p y) where
     branched : instruction_of m o s place z ≡ and_then (says_distance d) (λ b. encode_of m o s (pos b))
     unfolding instruction_of
     branched =

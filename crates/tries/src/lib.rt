@@ -1,5 +1,6 @@
 // The last walk over a tape: each statement is tried, in tape order, and what it writes is drawn into an image. The lent image is
 // written once every statement has passed.
+#![tactic(auto)]
 ghost use Rattle.std.specs.Prelude.{true, false, [], ◌∷◌, ◌≡◌, ◌+◌, ◌≤◌, ◌<◌, suc, length, get_or, replicate};
 ghost use Rattle.refusals.specs.Answer.{pick, mapped};
 ghost use Rattle.refusals.specs.AnswerAt as At;
@@ -36,21 +37,21 @@ use walk::{Numbers, Walk};
 const SIZE: usize = 65536;
 
 // Where what is written starts and ends, or the refusal.
-#[derive(Drop)]
+#[derive(Clone, Copy)]
 pub enum Written {
     Range { start: usize, end: usize },
     Refused { number: u8, at: usize },
 }
 
 // The bytes of a statement, or its refusal.
-#[derive(Drop)]
+#[derive(Clone, Copy)]
 pub enum Tried {
     Bytes(Code),
     Refused { number: u8, at: usize },
 }
 
 // Behind a record: the pen and the walk, and whether the record was refused.
-#[derive(Drop)]
+#[derive(Clone, Copy)]
 struct Stepped {
     pen: Pen,
     walk: Walk,

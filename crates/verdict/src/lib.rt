@@ -1,5 +1,6 @@
 // The verdict on numbers, a start and bytes, from anyone, for a tape whose names have been resolved: each statement is tried once with
 // these numbers, and what is written is compared.
+#![tactic(auto)]
 ghost use Rattle.std.specs.Prelude.{◌&&◌, ◌≡◌, ◌≤◌, eqb, length};
 ghost use Rattle.refusals.specs.Answer.{pick};
 ghost use Rattle.refusals.specs.AnswerAt.{Fine, Fault};
@@ -15,7 +16,7 @@ use walk::Numbers;
 const SIZE: usize = 65536;
 
 // The verdict.
-#[derive(Drop)]
+#[derive(Clone, Copy)]
 pub enum Checked {
     Accepted,
     Refused { number: u8, at: usize },

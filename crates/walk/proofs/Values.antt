@@ -35,7 +35,7 @@ use Rattle.walk.specs.Numbers.{numbers_in, reached, reads_noted, value_of}
 module _ (tape nodes : List ℕ) (known : List Bool) (number : List ℤ) (place : ℤ) (r : List ℕ) (at : ℕ)
     {f : Bool} (f-is : f ≡ is_followed (what_of r)) where
   -- without an expression
-  pub value_none : not f ≡ true → Unresolved at ≡ value_of tape nodes (numbers_in known number) place r at
+  pub value_none : f ≡ false → Unresolved at ≡ value_of tape nodes (numbers_in known number) place r at
   unfolding value_of
   value_none e = at_false _ _ (denied f-is e)
 
@@ -49,7 +49,7 @@ module _ (tape nodes : List ℕ) (known : List Bool) (number : List ℤ) (place 
   unfolding from_nodes
   noted_all i n = noted (get_or nodes n 0) i
 
-  pub value_read : not f ≡ false → SFits w64 place → {m : Meaning} → m ≡ expression_at tape nodes known number (back place) at
+  pub value_read : f ≡ true → SFits w64 place → {m : Meaning} → m ≡ expression_at tape nodes known number (back place) at
       → m.1 ≡ value_of tape nodes (numbers_in known number) place r at
   unfolding value_of reads_noted expression_at
   value_read e fits h =

@@ -1,5 +1,6 @@
 // A walk over a tape whose names have been resolved: what it carries from one statement to the next, the numbers that it reads, and
 // what an expression comes to with them. Passes and tries both walk so.
+#![tactic(auto)]
 ghost use Rattle.std.specs.Prelude.{◌≡◌};
 ghost use Rattle.symbols.specs.Says.{says_data};
 ghost use Rattle.evaluator.specs.Says.{says_value};
@@ -14,14 +15,14 @@ use symbols::{Data, NODES};
 const LAST_PLACE: usize = 65536;
 
 // Between two statements: the place of the next byte, and how many names are declared.
-#[derive(Drop)]
+#[derive(Clone, Copy)]
 pub struct Walk {
     pub place: usize,
     pub names: usize,
 }
 
 // Of each node whether it has a number, and which.
-#[derive(Drop)]
+#[derive(Clone, Copy)]
 pub struct Numbers {
     pub known: [bool; NODES],
     pub number: [i64; NODES],

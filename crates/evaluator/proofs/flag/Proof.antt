@@ -8,7 +8,7 @@ not-requires : tie.Need-not-requires
 not-requires c κs = search rules
 
 returns : tie.Need-returns
-returns c = values.flag_not _ c.before.before.ranges.a c.before.if1.true (record { sfits = c.not.type-inv }) c.not.ensures
+returns c = values.flag_not _ c.before.before.ranges.a c.before.if1.true (record { sfits = c.not.type_inv }) c.not.ensures
 
 neg-requires : tie.Need-neg-requires
 neg-requires c κs = search rules
@@ -27,7 +27,7 @@ returns-3 c =
     let negated = c.before in
     let other = negated.before in
     values.flag_both _ other.before.before.ranges.a other.before.if1.false other.if2.false
-    (record { sfits = negated.not2.type-inv }) negated.not2.ensures c.neg2.ensures
+    (record { sfits = negated.not2.type_inv }) negated.not2.ensures c.neg2.ensures
 
 pub flag-spec : {M : Type 1} → statement M
 flag-spec =

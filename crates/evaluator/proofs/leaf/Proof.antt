@@ -27,7 +27,7 @@ returns c =
     let tested = read.before in
     let kind = tested.before in
     meanings.leaf_number _ _ _ _ kind.before.«record».ensures kind.u8-at.ensures tested.if1.true
-    (record { sfits = read.i64-at.type-inv }) read.i64-at.ensures c.found.ensures
+    (record { sfits = read.i64-at.type_inv }) read.i64-at.ensures c.found.ensures
 
 add-found-2 : tie.Need-overflow-add-found-2
 add-found-2 c = omega (arith, meanings.ends _ _ c.before.before.before.«record».ensures (omega arith) (omega arith))

@@ -19,7 +19,7 @@ returns : tie.Need-returns
 returns c =
     let number = c.before.before in
     let f : SFits w64 number.reached.given.0.0 = search rules in
-    values.named_number _ _ f (record { sfits = c.modified.type-inv }) number.reached.given.1 c.modified.ensures
+    values.named_number _ _ f (record { sfits = c.modified.type_inv }) number.reached.given.1 c.modified.ensures
 
 returns-2 : tie.Need-returns-2
 returns-2 c = values.named_none _ _ c.enum_told.given.1

@@ -33,7 +33,7 @@ returns c =
     let tested = read.before.before in
     let args = tested.before.before.args in
     let is = sym tested.before.is-numbered.ensures ∙ tested.if1.true in
-    let z = to_z-of_z (record { sfits = read.number_at.type-inv }) ∙ read.number_at.ensures in
+    let z = to_z-of_z (record { sfits = read.number_at.type_inv }) ∙ read.number_at.ensures in
     (at_true _ _ is, c.before.put.ensures ∙ ap (set args.list.now args.count) z ∙ at_true _ _ is)
 
 returns-2 : tie.Need-returns-2

@@ -44,7 +44,7 @@ returns c =
     let tested = marked.before.before in
     let args = tested.before.before.before.args in
     let is = sym tested.before.is-numbered.ensures ∙ tested.if1.true in
-    let z = to_z-of_z (record { sfits = read.number_at.type-inv }) ∙ read.number_at.ensures in (
+    let z = to_z-of_z (record { sfits = read.number_at.type_inv }) ∙ read.number_at.ensures in (
       at_true _ _ is,
       marked.mark.ensures ∙ at_true _ _ is,
       c.before.put.ensures ∙ ap (set args.number.now (args.names + 1)) z ∙ at_true _ _ is,

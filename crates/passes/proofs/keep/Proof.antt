@@ -56,7 +56,7 @@ returns c =
     let tested = kept.before.before in
     let asked = tested.before in
     let kind = asked.before.u8-at.ensures in
-    let number = to_z-of_z (record { sfits = c.number-or-0.type-inv }) ∙ c.number-or-0.ensures in (
+    let number = to_z-of_z (record { sfits = c.number-or-0.type_inv }) ∙ c.number-or-0.ensures in (
       kept_in_lem _ _ _ kind asked.declares.ensures tested.if1.true _ kept.kept_for.ensures is_known told.is_known.ensures,
       kept_in_lem _ _ _ kind asked.declares.ensures tested.if1.true _ kept.kept_for.ensures number_or0 number,
     )

@@ -1,0 +1,12 @@
+-- `operators::gt` meets its contract: the test is on the numbers read back from their bits. Assumes nothing.
+use lib.Signed.{lt_z}
+use Rattle.int64.proofs.Laws.{read_both}
+use mathlib.Core.Path.{sym, ap, ◌∙◌}
+use Rattle.operators.specs.Operators.{flag}
+use Rattle.operators.proofs.gt.Goals as goal
+
+pub returns-then-b-a : goal.returns-then-b-a
+returns-then-b-a c = ap flag (sym c.if-b-a.true ∙ read_both lt_z c.ranges.b c.ranges.a)
+
+pub returns-else-b-a : goal.returns-else-b-a
+returns-else-b-a c = ap flag (sym c.if-b-a.false ∙ read_both lt_z c.ranges.b c.ranges.a)

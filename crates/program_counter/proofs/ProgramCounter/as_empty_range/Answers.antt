@@ -1,0 +1,10 @@
+-- `program_counter::ProgramCounter::as_empty_range` meets its contract. Assumes nothing.
+use native.Mathlib.Omega.{arith}
+use Rattle.program_counter.proofs.Laws.{inside, outside}
+use Rattle.program_counter.proofs.ProgramCounter.as_empty_range.Goals as goal
+
+pub returns-then-pc-le-LAST : goal.returns-then-pc-le-LAST
+returns-then-pc-le-LAST c = rw (inside c.args.self.0 (omega arith))
+
+pub returns-else-pc-le-LAST : goal.returns-else-pc-le-LAST
+returns-else-pc-le-LAST c = rw (outside c.args.self.0 (omega arith))
