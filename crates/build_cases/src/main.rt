@@ -6,7 +6,7 @@
 mod memory;
 mod show;
 
-use libc::STDIN_FILENO;
+use descriptors::STDIN_FILENO;
 
 // Room for the cases, and for a tape that is one byte too long.
 const CASES: usize = 65536;

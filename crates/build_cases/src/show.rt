@@ -1,6 +1,6 @@
 // How answers are printed.
 use builder::Built;
-use libc::STDOUT_FILENO;
+use descriptors::STDOUT_FILENO;
 
 // How many numbers or bytes a line has at most.
 const MOST: usize = 16;

@@ -6,7 +6,7 @@ mod hand;
 mod show;
 
 use hand::Hand;
-use libc::STDIN_FILENO;
+use descriptors::STDIN_FILENO;
 
 // Room for the cases; for a tape and for bytes, of which one is too many; and for numbers.
 const CASES: usize = 65536;

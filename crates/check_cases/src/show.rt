@@ -3,7 +3,7 @@ use crate::hand;
 use crate::hand::Hand;
 use builder::Built;
 use checker::Checked;
-use libc::STDOUT_FILENO;
+use descriptors::STDOUT_FILENO;
 use symbols::NODES;
 
 // Prints some words.

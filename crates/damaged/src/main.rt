@@ -9,7 +9,7 @@ mod judge;
 mod tally;
 mod trial;
 
-use libc::{STDIN_FILENO, STDOUT_FILENO};
+use descriptors::{STDIN_FILENO, STDOUT_FILENO};
 use trial::Trial;
 
 // Room for the sound ones, and for one of them.

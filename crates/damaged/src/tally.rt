@@ -1,5 +1,5 @@
 // Answers, counted.
-use libc::STDOUT_FILENO;
+use descriptors::STDOUT_FILENO;
 
 // How many numbers a call may answer, with 0 for done.
 const NUMBERS: usize = 19;

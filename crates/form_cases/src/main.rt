@@ -2,7 +2,7 @@
 // each case. The expected answers stand in stdout, and were written from document 01.
 #![tactic(auto)]
 use evaluator::Evaluated;
-use libc::{STDIN_FILENO, STDOUT_FILENO};
+use descriptors::{STDIN_FILENO, STDOUT_FILENO};
 use refusals::OutcomeAt;
 use symbols::SymbolTable;
 

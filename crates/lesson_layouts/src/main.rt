@@ -14,7 +14,7 @@
 #![tactic(auto)]
 use builder::Built;
 use checker::Checked;
-use libc::STDOUT_FILENO;
+use descriptors::STDOUT_FILENO;
 use symbols::NODES;
 use tape::{BYTE, CONSTANT, END, INSTRUCTION, LABEL, NAME_1, NUMBER, SET_PLACE};
 

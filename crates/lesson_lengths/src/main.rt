@@ -12,7 +12,7 @@
 //             room = 251          or 252
 #![tactic(auto)]
 use builder::Built;
-use libc::STDOUT_FILENO;
+use descriptors::STDOUT_FILENO;
 use symbols::NODES;
 use tape::{
     BINARY, BYTE, CONSTANT, CURRENT_PLACE, END, INSTRUCTION, LABEL, NAME_1, NUMBER, SET_PLACE,

@@ -7,7 +7,7 @@ mod maps;
 mod pens;
 mod show;
 
-use libc::STDIN_FILENO;
+use descriptors::STDIN_FILENO;
 use pen::Pen;
 
 // Room for the questions.

@@ -1,5 +1,5 @@
 // How questions and answers are printed.
-use libc::STDOUT_FILENO;
+use descriptors::STDOUT_FILENO;
 
 // Prints a question and the number of its answer.
 pub fn print(question: &[u8], number: u8) {

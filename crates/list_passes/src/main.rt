@@ -6,7 +6,7 @@
 mod line;
 
 use form::LONGEST;
-use libc::{STDIN_FILENO, STDOUT_FILENO};
+use descriptors::{STDIN_FILENO, STDOUT_FILENO};
 use passes::{LIMIT, Passes};
 use refusals::NOT_SETTLED;
 use symbols::{Data, NODES};

@@ -6,7 +6,7 @@ mod limits;
 mod part;
 mod show;
 
-use libc::STDIN_FILENO;
+use descriptors::STDIN_FILENO;
 
 // Room for the cases; for a tape that is one byte too long; and for a text that is.
 const CASES: usize = 65536;

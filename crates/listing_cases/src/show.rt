@@ -1,6 +1,6 @@
 // How tapes are listed, and cases printed.
 use crate::part;
-use libc::STDOUT_FILENO;
+use descriptors::STDOUT_FILENO;
 use listing::Listed;
 
 // How many bytes of a tape are printed at most.

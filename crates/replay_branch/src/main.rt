@@ -2,7 +2,7 @@
 // An answer is the operand byte in capital hex, or `refused`, on a line of its own.
 #![tactic(auto)]
 use branch::Distance;
-use libc::{STDIN_FILENO, STDOUT_FILENO};
+use descriptors::{STDIN_FILENO, STDOUT_FILENO};
 
 // Prints an answer.
 fn print_answer(answer: Distance) {

@@ -4,7 +4,7 @@
 // offset; or `finished`, start, end and passes, the numbers behind `:`, and behind another `:` a checksum of the whole image.
 #![tactic(auto)]
 use builder::Built;
-use libc::{STDIN_FILENO, STDOUT_FILENO};
+use descriptors::{STDIN_FILENO, STDOUT_FILENO};
 use symbols::NODES;
 
 // The bytes of a question, and where those of a tape begin in it.

@@ -6,7 +6,7 @@
 // document 01's number, `at` and the offset.
 #![tactic(auto)]
 use checker::Checked;
-use libc::{STDIN_FILENO, STDOUT_FILENO};
+use descriptors::{STDIN_FILENO, STDOUT_FILENO};
 
 // The bytes of a question, and where those of a tape begin in it.
 const WIDTH: usize = 64;

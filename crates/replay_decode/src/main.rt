@@ -3,7 +3,7 @@
 // on a line of its own.
 #![tactic(auto)]
 use inverse::{Decoded, Row};
-use libc::{STDIN_FILENO, STDOUT_FILENO};
+use descriptors::{STDIN_FILENO, STDOUT_FILENO};
 
 // Prints a number with a space before it.
 fn print_further(n: u64) {

@@ -3,7 +3,7 @@
 // An answer is a number in decimal, or `refused` where the Rust panics, on a line of its own.
 #![tactic(auto)]
 use int64::Number;
-use libc::{STDIN_FILENO, STDOUT_FILENO};
+use descriptors::{STDIN_FILENO, STDOUT_FILENO};
 
 // What the operation gives.
 fn evaluate(operation: u8, a: i64, b: i64) -> Number {

@@ -6,7 +6,7 @@
 // offset.
 #![tactic(auto)]
 use evaluator::Evaluated;
-use libc::{STDIN_FILENO, STDOUT_FILENO};
+use descriptors::{STDIN_FILENO, STDOUT_FILENO};
 use symbols::{Data, Inserted, Node, SymbolTable};
 
 // The operations; any other is evaluate.

@@ -3,7 +3,7 @@
 // An answer is one or two numbers in decimal, or `refused` where the Rust panics, on a line of its own.
 #![tactic(auto)]
 use int64::Number;
-use libc::{STDIN_FILENO, STDOUT_FILENO};
+use descriptors::{STDIN_FILENO, STDOUT_FILENO};
 use program_counter::{Extent, LeBytes, Place, ProgramCounter, Short};
 
 fn print_refused() {

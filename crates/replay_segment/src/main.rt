@@ -8,7 +8,7 @@
 // afterwards or the two answers are not the same, numbers included, and behind that of range_data if the two images are not.
 #![tactic(auto)]
 use int64::Number;
-use libc::{STDIN_FILENO, STDOUT_FILENO};
+use descriptors::{STDIN_FILENO, STDOUT_FILENO};
 use pen::{NewPen, Pen};
 use program_counter::{Extent, Place};
 use refusals::Outcome;

@@ -1,6 +1,7 @@
 // Answers, as the Rust would, each byte of standard input: its Petscreen byte, in capital hex on a line of its own.
 #![tactic(auto)]
-use libc::{STDIN_FILENO, STDOUT_FILENO};
+
+use descriptors::{STDIN_FILENO, STDOUT_FILENO};
 
 // Answers one question; whether there was one.
 fn answer() -> bool {

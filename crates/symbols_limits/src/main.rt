@@ -6,7 +6,7 @@ mod asks;
 mod show;
 mod tables;
 
-use libc::STDIN_FILENO;
+use descriptors::STDIN_FILENO;
 use symbols::SymbolTable;
 use tables::State;
 

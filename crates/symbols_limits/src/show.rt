@@ -1,5 +1,5 @@
 // How questions and answers are printed.
-use libc::STDOUT_FILENO;
+use descriptors::STDOUT_FILENO;
 use questions::Got;
 use refusals::Outcome;
 use scopes::{Count, Found};
