@@ -1,6 +1,7 @@
 // The listing: a tape is built, and for each record that writes a line of its place, its bytes and its mnemonic goes into a lent text,
 // then a line of start, end and passes. A refused tape gives the refused line alone.
 #![tactic(auto)]
+
 ghost use Rattle.std.specs.Prelude.{◌≡◌, ◌≤◌, length};
 ghost use Rattle.pen.specs.Pens.{size};
 ghost use Rattle.page.specs.Page.{laid};

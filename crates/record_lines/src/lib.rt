@@ -2,6 +2,7 @@
 // and its mnemonic for each record that writes goes into a lent text, and one of start, end and passes. A refused statement gives the
 // refused line alone.
 #![tactic(auto)]
+
 ghost use Rattle.std.specs.Prelude.{[], ◌≡◌, ◌≤◌, pos, length, get_or};
 ghost use Rattle.std.proofs.Math.Option.{none};
 ghost use Rattle.refusals.specs.Answer.{pick};
