@@ -2,6 +2,7 @@
 // is flags with an expression behind them, a number, the current place, or a name. Which node a name reaches is found first and
 // noted at its offset; what is computed then needs no table.
 #![tactic(auto)]
+
 ghost use Rattle.std.specs.Prelude.{◌≡◌, ◌≤◌, length};
 ghost use Rattle.int64.specs.Says.{says};
 ghost use Rattle.symbols.specs.Says.{says_data};

@@ -1,6 +1,7 @@
 // The form of a tape, and of an expression alone. One step over a record, with a small state: how many scopes are open, and the
 // depths of the expressions still to come.
 #![tactic(auto)]
+
 ghost use Rattle.std.specs.Prelude.{◌&&◌, ◌≡◌, ◌∷◌, ◌++◌, ◌+◌, ◌-◌, ◌≤◌, ◌<◌, min, eqb, ltb, drop, replicate};
 ghost use Rattle.refusals.specs.Answer.{pick};
 ghost use Rattle.refusals.specs.AnswerAt.{Fine, Fault};

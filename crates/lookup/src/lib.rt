@@ -1,5 +1,6 @@
 // Names on a tape: the node that a name record reaches from the scope in which it is read, and the notes of these nodes, by offset.
 #![tactic(auto)]
+
 ghost use Rattle.std.specs.Prelude.{◌≡◌, ◌-◌, ◌/◌, length, replicate};
 ghost use Rattle.scopes.specs.Says.{says_found};
 ghost use Rattle.lookup.specs.Lookup.{node_of};

@@ -1,6 +1,7 @@
 // What is asked of a symbol table, under the Rust's names: a node's number, and the nodes that names mean. A question changes nothing; on a
 // table that is not sound it is refused (1). The table goes in by value, and its edges are lent to the look-ups.
 #![tactic(auto)]
+
 ghost use Rattle.std.specs.Prelude.{◌≡◌, ◌<◌, length};
 ghost use Rattle.refusals.specs.Answer.{Done, mapped};
 ghost use Rattle.edges.specs.Edges.{max_nodes};

@@ -2,6 +2,7 @@
 // are its scope. A table is plain data and goes in and comes back by value; inside a call, look-ups lend its edges and copy
 // nothing. A call on a table that is not sound is refused (1), and a refused call changes nothing.
 #![tactic(auto)]
+
 ghost use Rattle.std.specs.Prelude.{◌≡◌, ◌+◌, ◌<◌, ◌≤◌, length};
 ghost use Rattle.refusals.specs.Answer.{Done, Refused};
 ghost use Rattle.edges.specs.Edges.{max_nodes, max_edges};

@@ -22,7 +22,7 @@ pub slice_bounds-result-end : goal.slice_bounds-result-end
 slice_bounds-result-end c = omega (arith, (records.found_whole _ _ _ (told c)).0)
 
 pub returns-in-Whole : goal.returns-in-Whole
-returns-in-Whole c = simp (add-sub_cancel_left) (records.found_whole _ _ _ (told c)).1
+returns-in-Whole c = simp (add-sub_cancel_left) (records.found_whole _ _ _ (sym (ap says_found c.in-Whole.is) ∙ c.find.ensures)).1
 
 pub returns-in-Refused : goal.returns-in-Refused
 returns-in-Refused c = records.found_none _ _ _ _ (sym (ap says_found c.in-Refused.is) ∙ c.find.ensures)
