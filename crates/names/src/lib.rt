@@ -1,6 +1,7 @@
 // The names of a tape: scopes, labels and constants are declared in tape order, and only then is each name record resolved, from the
 // scope in which it stands. Declaration k is node k, and its edge, edge k - 1, leaves the scope around it.
 #![tactic(auto)]
+
 ghost use Rattle.std.specs.Prelude.{◌≡◌, ◌+◌, ◌*◌, ◌≤◌, ◌<◌, length, replicate};
 ghost use Rattle.refusals.specs.AnswerAt.{Fine, Fault};
 ghost use Rattle.edges.specs.Edges.{max_edges};

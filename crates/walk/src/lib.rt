@@ -1,6 +1,7 @@
 // A walk over a tape whose names have been resolved: what it carries from one statement to the next, the numbers that it reads, and
 // what an expression comes to with them. Passes and tries both walk so.
 #![tactic(auto)]
+
 ghost use Rattle.std.specs.Prelude.{◌≡◌};
 ghost use Rattle.symbols.specs.Says.{says_data};
 ghost use Rattle.evaluator.specs.Says.{says_value};
