@@ -1,6 +1,7 @@
 // The builder: from a tape to an image. The tape is laid out, and each statement tried with the numbers of its layout; the lent image is
 // written where nothing is refused, and the work memory is zero again at the end.
 #![tactic(auto)]
+
 ghost use Rattle.std.specs.Prelude.{◌≡◌, ◌≤◌, pos, length, replicate};
 ghost use Rattle.pen.specs.Pens.{size};
 ghost use Rattle.edges.specs.Edges.{max_nodes};

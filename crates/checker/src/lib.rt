@@ -1,6 +1,7 @@
 // The checker: whether numbers, a start and bytes, from anyone, fit a tape. Form and names as in a build; then each statement is tried
 // once, with the given numbers, and what is written is compared. There are no passes, and no memory of the caller is written.
 #![tactic(auto)]
+
 ghost use Rattle.std.specs.Prelude.{◌≡◌, ◌≤◌, ◌<◌, length};
 ghost use Rattle.refusals.specs.AnswerAt.{Fault};
 ghost use Rattle.pen.specs.Pens.{size};

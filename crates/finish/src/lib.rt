@@ -1,6 +1,7 @@
 // The end of a build: each statement of a tape whose names have been resolved is tried with the numbers of its layout; where none is
 // refused, the lent image is written and the lent list has the numbers.
 #![tactic(auto)]
+
 ghost use Rattle.std.specs.Prelude.{◌≡◌};
 ghost use Rattle.refusals.specs.AnswerAt.{mapped};
 ghost use Rattle.pen.specs.Pens.{size};

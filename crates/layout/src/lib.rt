@@ -1,5 +1,6 @@
 // The layout of a tape: form and names, then passes until one gives back the numbers that it read.
 #![tactic(auto)]
+
 ghost use Rattle.std.specs.Prelude.{◌≡◌, length};
 ghost use Rattle.passes.specs.Settle.{says_settled, left};
 ghost use Rattle.layout.specs.Layout.{layout_of, noted_of};

@@ -1,6 +1,7 @@
 // Number lists: one number for each label and constant of a tape, in tape order. A build gathers one from the numbers of the nodes; a
 // check spreads one over the nodes. Total: a number past an end is 0, and what has no room is left out.
 #![tactic(auto)]
+
 ghost use Rattle.std.specs.Prelude.{true, false, ◌≡◌, ◌+◌, ◌<◌, ◌^◌, pos, length, get_or, set, replicate};
 ghost use Rattle.refusals.specs.Answer.{pick};
 ghost use Rattle.edges.specs.Edges.{max_nodes};

@@ -1,6 +1,7 @@
 // The passes over a tape whose names have been resolved: each walks the tape from the initial place, reads the numbers that the pass
 // before it gave, and gives new ones, until a pass gives back what it read.
 #![tactic(auto)]
+
 ghost use Rattle.std.specs.Prelude.{true, [], ◌∷◌, ◌≡◌, ◌+◌, ◌<◌, ◌^◌, length, get_or};
 ghost use Rattle.refusals.specs.AnswerAt.{Fault};
 ghost use Rattle.opcodes.specs.Says.{listed};

@@ -3,6 +3,7 @@
 pub mod Parts
 pub mod Attempts
 pub mod Drawing
+pub mod Copying
 pub mod Lengths
 pub mod Passed
 pub mod Advancing

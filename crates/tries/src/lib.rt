@@ -1,6 +1,7 @@
 // The last walk over a tape: each statement is tried, in tape order, and what it writes is drawn into an image. The lent image is
 // written once every statement has passed.
 #![tactic(auto)]
+
 ghost use Rattle.std.specs.Prelude.{true, false, [], ◌∷◌, ◌≡◌, ◌+◌, ◌≤◌, ◌<◌, suc, length, get_or, replicate};
 ghost use Rattle.refusals.specs.Answer.{pick, mapped};
 ghost use Rattle.refusals.specs.AnswerAt as At;

@@ -1,6 +1,7 @@
 // The verdict on numbers, a start and bytes, from anyone, for a tape whose names have been resolved: each statement is tried once with
 // these numbers, and what is written is compared.
 #![tactic(auto)]
+
 ghost use Rattle.std.specs.Prelude.{◌&&◌, ◌≡◌, ◌≤◌, eqb, length};
 ghost use Rattle.refusals.specs.Answer.{pick};
 ghost use Rattle.refusals.specs.AnswerAt.{Fine, Fault};

@@ -1,0 +1,23 @@
+-- What the search leaves. Assumes nothing.
+use mathlib.Core.Path.{refl}
+use Prim.Native.Nat.{◌-◌}
+use native.Mathlib.Omega.{arith}
+use lib.IntN.{pos}
+use lib.ListN.{length-set}
+use Rattle.refusals.proofs.Memory.{filled_none, filled_more, filled_whole}
+use Rattle.number_list.proofs.clear.Goals as goal
+
+pub loop-i-init : goal.loop-i-init
+loop-i-init c = (omega arith, filled_none (pos 0) _, refl)
+
+pub loop-i-smaller : goal.loop-i-smaller
+loop-i-smaller c = simp length-set (omega arith)
+
+pub loop-i-preserved : goal.loop-i-preserved
+loop-i-preserved c = (omega arith, filled_more (pos 0) _ _ _ c.loop-i.invariant.1 (omega arith), simp length-set c.loop-i.invariant.2)
+
+pub shape_of-list : goal.shape_of-list
+shape_of-list c = c.loop-i.invariant.2
+
+pub returns : goal.returns
+returns c = filled_whole (pos 0) _ _ _ c.loop-i.invariant.1 c.loop-i.invariant.0 (omega arith)

@@ -1,0 +1,13 @@
+-- Each turn passes one record over, and puts its number if it has one. Assumes nothing.
+use mathlib.Core.Path.{◌≡◌}
+use Prim.Native.Nat.{◌-◌}
+use lib.ListN.{length}
+use Rattle.number_list.proofs.Spreading.{Spreading}
+use Rattle.number_list.proofs.spread_into.Given as goal
+
+abbrev pub invariant-loop-at : goal.invariant-loop-at
+invariant-loop-at l =
+    Spreading l.tape l.list l.known l.number l.names l.count l.at × (length l.known ≡ length l.initial.known) × (length l.number ≡ length l.initial.number)
+
+abbrev pub decreases-loop-at : goal.decreases-loop-at
+decreases-loop-at l = length l.tape - l.at
