@@ -57,32 +57,19 @@ has_replay() {
     [ -f "$root/crates/replay_$1/src/main.rt" ]
 }
 
-# Copies the crates, and what rt keeps of finished proofs, to where programs may get other input.
-copy_crates() {
-    [ ! -d "$scratch/repository" ] || return 0
-    mkdir -p "$scratch/repository/target"
-    cp "$root/crates.txt" "$scratch/repository/"
-    cp -R "$root/crates" "$scratch/repository/"
-    local part
-    for part in stamp rlib; do
-        [ ! -d "$root/target/$part" ] || cp -R "$root/target/$part" "$scratch/repository/target/"
-    done
+# Proves and builds a program, where something has changed; `program` is then its executable. rt
+# builds what it then runs: here on no input.
+build_program() { # NAME
+    program=$root/crates/$1/out/$1
+    (cd "$root/crates/$1" && rt run) </dev/null >"$scratch/said" 2>&1 ||
+        fail "$1 is not proved: $(tail -n 3 "$scratch/said")"
 }
 
-# Runs the replay program of a kind on a file of questions. rt proves it, runs it on any machine
-# and holds what it writes to a file of expected answers; its status is rt's. What the program
-# wrote goes to the file `ours`, and what rt said to the file `said`.
+# Runs the replay program of a kind on a file of questions, and holds what it writes to a file of
+# expected answers. rt proves and builds the program first, where something has changed. What the
+# program wrote goes to the file `ours`, and what rt said to the file `said`.
 replay() { # KIND QUESTIONS EXPECTED
-    local name=replay_$1 status
-    copy_crates
     ours=$scratch/$1.ours
     said=$scratch/$1.said
-    # rt runs a program only where something changed since it was last proved
-    rm -rf "$ours" "$scratch/repository/target/stamp/$name"
-    cp "$2" "$scratch/repository/crates/$name/stdin"
-    cp "$3" "$scratch/repository/crates/$name/stdout"
-    (cd "$scratch/repository" && rt check "$name") >"$said" 2>&1
-    status=$?
-    mv "$scratch/repository/target/log/$name.stdout" "$ours" 2>/dev/null
-    return "$status"
+    (cd "$root/crates/replay_$1" && rt run) <"$2" >"$ours" 2>"$said" && cmp -s "$ours" "$3"
 }
