@@ -1,6 +1,5 @@
 -- Each public call allows one answer, one pen at exit and one image at exit: the law of `refusals`, applied to each call's own contract.
 -- Assumes nothing.
-use mathlib.Core.Path.{◌≡◌, refl}
 use mathlib.Core.List.{List}
 use Prim.Native.Nat.{ℕ}
 use Rattle.refusals.specs.declared.Outcome.{Outcome}

@@ -6,7 +6,7 @@ use Prim.Native.Nat.{ℕ, ◌+◌, ◌≤◌, ◌<◌}
 use native.Mathlib.Omega.{arith}
 use lib.Dec.{eqb}
 use lib.ListN.{length, get_or, replicate, length-replicate}
-use Rattle.refusals.specs.Answer.{Answer, Refused, mapped}
+use Rattle.refusals.specs.Answer.{Answer, Refused}
 use Rattle.refusals.specs.AnswerAt as At
 use Rattle.refusals.specs.AnswerAt.{AnswerAt, Fine, Fault, and_then}
 use Rattle.little.specs.Little.{number_at}

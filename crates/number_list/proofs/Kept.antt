@@ -1,7 +1,7 @@
 -- What the calls come to where a tape's names have room: as many values as names, no number left out. Assumes nothing.
 use mathlib.Core.List.{List, [], ◌∷◌, ◌++◌, map-id}
 use mathlib.Core.Path.{◌≡◌, refl, sym, ap, ◌∙◌}
-use Prim.Native.Nat.{ℕ, zero, suc, ◌+◌, ◌-◌, ◌≤◌, ◌<◌}
+use Prim.Native.Nat.{ℕ, zero, suc, ◌-◌, ◌≤◌, ◌<◌}
 use native.Mathlib.Omega.{arith}
 use lib.IntN.{ℤ, pos}
 use lib.ListN.{length, get_or, take, drop, replicate, length-append}

@@ -18,7 +18,6 @@ use Rattle.symbols.specs.declared.Data as D
 use Rattle.symbols.specs.declared.Data.TheVariants as datum
 use Rattle.symbols.specs.Says.{says_data}
 use Rattle.tape.specs.Kinds.{label, constant}
-use Rattle.evaluator.specs.Expression.{Unresolved}
 use Rattle.evaluator.proofs.Values.{back}
 use Rattle.walk.specs.declared.Walk.{Walk}
 use Rattle.walk.specs.Walk.{form_length}

@@ -26,7 +26,7 @@ use Rattle.lookup.specs.Lookup.{path_of, node_of}
 use Rattle.lookup.specs.Notes.{onward, NameAt, noted, Resolved}
 use Rattle.lookup.proofs.Notes.{onward_onward, onward_one}
 use Rattle.lookup.proofs.Paths.{length_path}
-use Rattle.evaluator.specs.Expression.{Meaning, expression}
+use Rattle.evaluator.specs.Expression.{Meaning}
 use Rattle.evaluator.proofs.Along.{expression_agrees}
 use Rattle.names.specs.Scopes.{Scopes, outermost, scope_of, scopes_after, scopes_behind, before, scope_at}
 use Rattle.names.specs.Names.{names_of}

@@ -10,7 +10,7 @@ use lib.ListN.{length}
 use Rattle.refusals.specs.Answer.{Answer, Done, Refused, mapped}
 use Rattle.refusals.specs.Table.{argument}
 use Rattle.edges.specs.declared.Edge.{Edge}
-use Rattle.edges.specs.Edges.{is_path, parent_of, walk_of, has, chain_of, chain, query_on, query_of, all_of}
+use Rattle.edges.specs.Edges.{is_path, parent_of, walk_of, has, chain_of, query_on, query_of, all_of}
 use Rattle.soundness.specs.Sound.{rooted, is_node_in}
 use Rattle.soundness.proofs.Rooted.{chain_first, chain_alone, chain_rest}
 use Rattle.scopes.specs.Scopes.{query_all_in, listed, list_after}

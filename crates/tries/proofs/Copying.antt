@@ -33,4 +33,3 @@ pub laid_all : (image bytes now : List ℕ) (i : ℕ) → now ≡ laid image byt
 unfolding laid
 laid_all image bytes now i e h k =
     e ∙ ap (λ (l : List ℕ). take i bytes ++ l) (drop_of_length-le image h) ∙ append-nil (take i bytes) ∙ take_all i bytes k
-

@@ -1,5 +1,5 @@
 -- The parts of a try: the number in the list, what is compared, places, and the bytes of an instruction. Assumes nothing.
-use mathlib.Core.Bool.{Bool, true, false, not}
+use mathlib.Core.Bool.{Bool, true, false}
 use mathlib.Core.List.{List, []}
 use mathlib.Core.Option.{none, some}
 use mathlib.Core.Path.{◌≡◌, sym, ap, ◌∙◌}
@@ -64,16 +64,16 @@ module _ (number : ℕ) (own : D.Data) (z : ℤ) (at : ℕ) where
   pub not_compared : number ≡ 0 → Fine (code []) ≡ comparing
   not_compared e = rw (eq-eqb number 0 e)
 
-  module _ (Some-number : number ≡ 0 → ⊥) where
+  module _ (some-number : number ≡ 0 → ⊥) where
     pub compared_none : own ≡ datum.Unresolved → Fault number at ≡ comparing
-    compared_none e = rw (ne_eqb number 0 Some-number, e)
+    compared_none e = rw (ne_eqb number 0 some-number, e)
 
     module _ {y : ℤ} (e : own ≡ datum.Number y) where
       pub compared_same : SFits w64 y → SFits w64 z → of_z w64 y ≡ of_z w64 z → Fine (code []) ≡ comparing
-      compared_same f g h = rw (ne_eqb number 0 Some-number, e, ← eq_z_yes (same_bits f g h))
+      compared_same f g h = rw (ne_eqb number 0 some-number, e, ← eq_z_yes (same_bits f g h))
 
       pub compared_other : (of_z w64 y ≡ of_z w64 z → ⊥) → Fault number at ≡ comparing
-      compared_other h = rw (ne_eqb number 0 Some-number, e, ← eq_z_no y z (λ p. h (ap (of_z w64) p)))
+      compared_other h = rw (ne_eqb number 0 some-number, e, ← eq_z_no y z (λ p. h (ap (of_z w64) p)))
 
 -- ---- places
 

@@ -8,7 +8,7 @@ use lib.IntN.{ℤ}
 use lib.ListN.{length, length-replicate}
 use Rattle.refusals.specs.Answer as A
 use Rattle.refusals.specs.Answer.{Answer, Done, Refused}
-use Rattle.refusals.specs.AnswerAt.{Fine, mapped, and_then}
+use Rattle.refusals.specs.AnswerAt.{Fine}
 use Rattle.refusals.proofs.Never.{never}
 use Rattle.refusals.proofs.Pick.{done_value}
 use Rattle.pen.specs.declared.Pen.{Pen}

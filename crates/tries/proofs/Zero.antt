@@ -11,7 +11,7 @@ use lib.IntN.{ℤ}
 use lib.ListN.{length, get_or, replicate, length-replicate}
 use Rattle.refusals.specs.Answer as A
 use Rattle.refusals.specs.Answer.{Answer, Done, Refused}
-use Rattle.refusals.specs.AnswerAt.{Fine, mapped, and_then}
+use Rattle.refusals.specs.AnswerAt.{Fine}
 use Rattle.refusals.specs.Table.{argument}
 use Rattle.refusals.specs.Memory.{over}
 use Rattle.refusals.proofs.Memory.{get_or_over, over_before, get_or_zeros}

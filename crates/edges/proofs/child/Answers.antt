@@ -19,20 +19,18 @@ returns-then-edge-x c =
     ∙ laws.child_here _ _ c.loop-i-test.true c.edge_in-edge.ensures c.if-edge-s.true c.if-edge-x.true)
 
 pub loop-i-preserved-else-edge-x : goal.loop-i-preserved-else-edge-x
-loop-i-preserved-else-edge-x c =
-    (
-      search rules,
-      c.loop-i.invariant.1
-          ∙ laws.child_unnamed _ _ c.loop-i-test.true c.edge_in-edge.ensures c.if-edge-s.true c.if-edge-x.false,
-    )
+loop-i-preserved-else-edge-x c = (
+  search rules,
+  c.loop-i.invariant.1
+      ∙ laws.child_unnamed _ _ c.loop-i-test.true c.edge_in-edge.ensures c.if-edge-s.true c.if-edge-x.false,
+)
 
 pub loop-i-preserved : goal.loop-i-preserved
-loop-i-preserved c =
-    (
-      search rules,
-      c.loop-i.invariant.1
-          ∙ laws.child_other _ _ c.loop-i-test.true c.edge_in-edge.ensures _ _ c.if-edge-s.false,
-    )
+loop-i-preserved c = (
+  search rules,
+  c.loop-i.invariant.1
+      ∙ laws.child_other _ _ c.loop-i-test.true c.edge_in-edge.ensures _ _ c.if-edge-s.false,
+)
 
 pub returns : goal.returns
 unfolding child_of edges_in

@@ -17,12 +17,11 @@ returns-then-edge-s c =
     sym (c.loop-i.invariant.1 ∙ laws.parent_here _ _ c.loop-i-test.true c.edge_in-edge.ensures c.if-edge-s.true)
 
 pub loop-i-preserved : goal.loop-i-preserved
-loop-i-preserved c =
-    (
-      search rules,
-      c.loop-i.invariant.1
-          ∙ laws.parent_other _ _ c.loop-i-test.true c.edge_in-edge.ensures c.if-edge-s.false,
-    )
+loop-i-preserved c = (
+  search rules,
+  c.loop-i.invariant.1
+      ∙ laws.parent_other _ _ c.loop-i-test.true c.edge_in-edge.ensures c.if-edge-s.false,
+)
 
 pub returns : goal.returns
 unfolding parent_of edges_in

@@ -1,6 +1,5 @@
 -- What the search leaves. Assumes nothing.
 use mathlib.Core.Path.{refl, sym, ◌∙◌}
-use Prim.Native.Nat.{◌-◌}
 use Rattle.edges.proofs.Laws as laws
 use borrow.Author.Rules.{rules}
 use Rattle.edges.proofs.walk.Goals as goal

@@ -1,6 +1,5 @@
 -- What the search leaves. Assumes nothing.
 use mathlib.Core.Path.{sym, ◌∙◌}
-use Prim.Native.Nat.{◌-◌}
 use Rattle.index.proofs.Laws as laws
 use Rattle.index.proofs.has_super.Goals as goal
 

@@ -1,6 +1,5 @@
 -- What the search leaves. Assumes nothing.
 use mathlib.Core.Path.{◌≡◌, ap, ◌∙◌}
-use Prim.Native.Nat.{◌-◌}
 use native.Mathlib.Omega.{arith}
 use Rattle.index.specs.Index.{index_of}
 use Rattle.index.proofs.Laws.{indexless, index_more}

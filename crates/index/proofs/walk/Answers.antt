@@ -1,6 +1,5 @@
 -- What the search leaves. Assumes nothing.
 use mathlib.Core.Path.{sym, ◌∙◌}
-use Prim.Native.Nat.{◌-◌}
 use Rattle.edges.proofs.Laws.{reached_node, reached_none}
 use Rattle.index.proofs.Laws as laws
 use Rattle.index.proofs.walk.Goals as goal

@@ -1,6 +1,6 @@
 -- What the search leaves. Assumes nothing.
 use Rattle.int64.proofs.Laws.{twice}
-use Rattle.std.proofs.Common.{ℕ, ◌+◌, ◌-◌, ◌*◌, ◌%◌, ◌^◌, sym, ap, ◌∙◌, mod-eq_of_lt, le_antisymm, mul-one, arith}
+use Rattle.std.proofs.Common.{ℕ, ◌+◌, ◌*◌, ◌%◌, ◌^◌, sym, ap, ◌∙◌, mod-eq_of_lt, le_antisymm, mul-one, arith}
 use Rattle.int64.proofs.doubled.Goals as goal
 
 pub loop-i-init : goal.loop-i-init

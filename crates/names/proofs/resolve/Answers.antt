@@ -1,6 +1,6 @@
 -- What the search leaves. Assumes nothing.
 use mathlib.Core.Path.{refl, sym, ◌∙◌}
-use Prim.Native.Nat.{◌+◌, ◌-◌, ◌≤◌, ◌<◌}
+use Prim.Native.Nat.{◌+◌, ◌≤◌, ◌<◌}
 use native.Mathlib.Omega.{arith}
 use lib.ListN.{length}
 use Rattle.names.proofs.Nesting.{next_within}
@@ -25,13 +25,20 @@ behind-walk-requires c =
     (omega arith, omega (arith, few_scopes inv))
 
 pub overflow_add-at : goal.overflow_add-at
-overflow_add-at c = omega (arith, (let it : let tape = c.args.tape.now in (0 < length c.record-rec.result.now) × (c.loop-at.at + length c.record-rec.result.now ≤ length tape) = let not_last = sym c.is_last.ensures ∙ c.if-is_last.false in
-    next_within _ _ c.record-rec.ensures not_last c.loop-at-test.true in it).1)
+overflow_add-at c = omega (
+  arith,
+  (let it : let tape = c.args.tape.now in (0 < length c.record-rec.result.now) × (c.loop-at.at + length c.record-rec.result.now ≤ length tape) = let not_last = sym c.is_last.ensures ∙ c.if-is_last.false in
+      next_within _ _ c.record-rec.ensures not_last c.loop-at-test.true in it).1,
+)
 
 pub loop-at-smaller : goal.loop-at-smaller
-loop-at-smaller c = omega (arith, (let it : let tape = c.args.tape.now in (0 < length c.record-rec.result.now) × (c.loop-at.at + length c.record-rec.result.now ≤ length tape) = let not_last = sym c.is_last.ensures ∙ c.if-is_last.false in
-    next_within _ _ c.record-rec.ensures not_last c.loop-at-test.true in it).0, (let it : let tape = c.args.tape.now in (0 < length c.record-rec.result.now) × (c.loop-at.at + length c.record-rec.result.now ≤ length tape) = let not_last = sym c.is_last.ensures ∙ c.if-is_last.false in
-    next_within _ _ c.record-rec.ensures not_last c.loop-at-test.true in it).1)
+loop-at-smaller c = omega (
+  arith,
+  (let it : let tape = c.args.tape.now in (0 < length c.record-rec.result.now) × (c.loop-at.at + length c.record-rec.result.now ≤ length tape) = let not_last = sym c.is_last.ensures ∙ c.if-is_last.false in
+      next_within _ _ c.record-rec.ensures not_last c.loop-at-test.true in it).0,
+  (let it : let tape = c.args.tape.now in (0 < length c.record-rec.result.now) × (c.loop-at.at + length c.record-rec.result.now ≤ length tape) = let not_last = sym c.is_last.ensures ∙ c.if-is_last.false in
+      next_within _ _ c.record-rec.ensures not_last c.loop-at-test.true in it).1,
+)
 
 pub loop-at-preserved : goal.loop-at-preserved
 loop-at-preserved c =

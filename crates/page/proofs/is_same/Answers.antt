@@ -1,5 +1,5 @@
 -- What the search leaves. Assumes nothing.
-use Prim.Native.Nat.{◌-◌, ◌≤◌, ◌<◌}
+use Prim.Native.Nat.{◌≤◌, ◌<◌}
 use mathlib.Core.Path.{refl, sym, ◌∙◌}
 use lib.ListN.{length}
 use Rattle.page.proofs.Sameness.{other_length, other_byte, same_byte, same_end}

@@ -1,6 +1,5 @@
 -- What the search leaves. Assumes nothing.
 use mathlib.Core.Path.{sym, ◌∙◌}
-use Prim.Native.Nat.{◌-◌}
 use native.Mathlib.Omega.{arith}
 use Rattle.form.specs.Form.{declares}
 use Rattle.form.proofs.Said.{names_one, names_more}

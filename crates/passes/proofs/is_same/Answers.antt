@@ -1,7 +1,6 @@
 -- What the search leaves. Assumes nothing.
 use mathlib.Core.Bool.{false}
 use mathlib.Core.Path.{ap}
-use Prim.Native.Nat.{◌-◌}
 use lib.IntN.{pos}
 use lib.ListN.{get_or}
 use mir.Syntax.{w64}

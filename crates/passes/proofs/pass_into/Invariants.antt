@@ -1,5 +1,4 @@
 -- What is given so far, and the pass from here; the measure is what is left of the tape. Assumes nothing.
-use mathlib.Core.List.{[]}
 use mathlib.Core.Path.{◌≡◌}
 use Prim.Native.Nat.{◌-◌}
 use lib.ListN.{length}

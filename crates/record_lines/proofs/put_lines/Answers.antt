@@ -1,5 +1,5 @@
 -- What the search leaves. Assumes nothing.
-use Prim.Native.Nat.{◌-◌, ◌≤◌}
+use Prim.Native.Nat.{◌≤◌}
 use native.Mathlib.Omega.{arith}
 use mir.Syntax.{w64}
 use mir.Facts.{to_z_pos}
@@ -29,10 +29,12 @@ pub bytes_of-bytes-requires : goal.bytes_of-bytes-requires
 bytes_of-bytes-requires c = c.loop-at.invariant.low
 
 pub place_behind-place-requires : goal.place_behind-place-requires
-place_behind-place-requires c =
-    (c.loop-at.invariant.low, (let it : c.bytes_of-bytes.result.len ≤ 3 = let going = c.loop-at.invariant in
-    going_short _ _ _ _ going c.record-rec.ensures c.is_last.ensures c.if-is_last.false _
-    (to_z_pos w64 (omega (arith, going.low))) c.value_of-value.ensures _ c.bytes_of-bytes.ensures in it))
+place_behind-place-requires c = (
+  c.loop-at.invariant.low,
+  (let it : c.bytes_of-bytes.result.len ≤ 3 = let going = c.loop-at.invariant in
+      going_short _ _ _ _ going c.record-rec.ensures c.is_last.ensures c.if-is_last.false _
+      (to_z_pos w64 (omega (arith, going.low))) c.value_of-value.ensures _ c.bytes_of-bytes.ensures in it),
+)
 
 pub loop-at-smaller : goal.loop-at-smaller
 loop-at-smaller c =

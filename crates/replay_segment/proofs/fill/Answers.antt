@@ -1,6 +1,5 @@
 -- What the search leaves. Assumes nothing.
 use mathlib.Core.Path.{refl}
-use Prim.Native.Nat.{◌-◌}
 use native.Mathlib.Omega.{arith}
 use lib.ListN.{length-set}
 use Rattle.replay_segment.proofs.fill.Goals as goal

@@ -1,6 +1,6 @@
 -- What stands behind the marks that are left, from here on, is what stands behind all of them. Assumes nothing.
 use mathlib.Core.Path.{◌≡◌}
-use Prim.Native.Nat.{◌-◌, ◌≤◌}
+use Prim.Native.Nat.{◌≤◌}
 use lib.ListN.{length, drop}
 use Rattle.script.specs.Parts.{from}
 use Rattle.script.proofs.behind.Given as goal

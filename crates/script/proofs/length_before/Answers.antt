@@ -1,5 +1,4 @@
 -- What the search leaves. Assumes nothing.
-use Prim.Native.Nat.{◌-◌}
 use native.Mathlib.Omega.{arith}
 use Rattle.script.proofs.Scans.{until_mark, until_more, until_end}
 use Rattle.script.proofs.length_before.Goals as goal

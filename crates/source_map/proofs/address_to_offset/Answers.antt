@@ -1,5 +1,4 @@
 -- What the search leaves. Assumes nothing.
-use mathlib.Core.Bool.{true}
 use mathlib.Core.Path.{sym}
 use native.Mathlib.Omega.{arith}
 use Rattle.source_map.specs.SourceMap.{address_to_offset}

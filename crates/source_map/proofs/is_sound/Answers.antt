@@ -1,7 +1,5 @@
 -- What the search leaves. Assumes nothing.
-use mathlib.Core.Bool.{true}
 use mathlib.Core.Path.{sym, ap, ◌∙◌}
-use Prim.Native.Nat.{◌-◌}
 use native.Mathlib.Omega.{arith}
 use Rattle.source_map.specs.SourceMap.{all_in_range}
 use Rattle.refusals.proofs.Pick.{denied, granted}

@@ -1,6 +1,5 @@
 -- What the search leaves. Assumes nothing.
 use mathlib.Core.Path.{refl, ◌∙◌}
-use Prim.Native.Nat.{◌-◌}
 use native.Mathlib.Omega.{arith}
 use Rattle.source_map.proofs.Laws.{shape}
 use Rattle.source_map.proofs.Loops.{move_next, move_all}

@@ -17,13 +17,16 @@ returns-then-is_inner c =
 
 pub put-requires : goal.put-requires
 put-requires c =
-    let passed = sym (ap says_tried c.in-Bytes.is) ∙ c.attempt.ensures in
-    (c.requires.0, c.requires.1, over_short (let it : let args = c.args in Handed args.tape.now args.nodes.now (numbers_in args.known.now args.number.now) args.walk args.at args.rec.now (says_data c.own_number-own.result) (to_z w64 args.walk.place) (says_value c.value_of-value.result) = record {
-      outer = sym c.is_inner.ensures ∙ c.if-is_inner.false;
-      own_is = c.own_number-own.ensures;
-      place_is = to_z_pos w64 (omega (arith, c.requires.0));
-      v_is = c.value_of-value.ensures;
-    } in it) c.args.compares _ passed)
+    let passed = sym (ap says_tried c.in-Bytes.is) ∙ c.attempt.ensures in (
+      c.requires.0,
+      c.requires.1,
+      over_short (let it : let args = c.args in Handed args.tape.now args.nodes.now (numbers_in args.known.now args.number.now) args.walk args.at args.rec.now (says_data c.own_number-own.result) (to_z w64 args.walk.place) (says_value c.value_of-value.result) = record {
+        outer = sym c.is_inner.ensures ∙ c.if-is_inner.false;
+        own_is = c.own_number-own.ensures;
+        place_is = to_z_pos w64 (omega (arith, c.requires.0));
+        v_is = c.value_of-value.ensures;
+      } in it) c.args.compares _ passed,
+    )
 
 pub returns-in-Refused : goal.returns-in-Refused
 returns-in-Refused c =

@@ -1,5 +1,5 @@
 -- What the search leaves. Assumes nothing.
-use Rattle.std.proofs.Common.{◌∷◌, [], refl, arith}
+use Rattle.std.proofs.Common.{refl, arith}
 use lib.ListN.{length-set}
 use Rattle.tries.proofs.Copying.{laid_none, laid_more, laid_all}
 use Rattle.tries.proofs.copy.Goals as goal

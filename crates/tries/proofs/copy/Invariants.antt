@@ -1,5 +1,4 @@
 -- The loop keeps: the first i bytes stand, and behind them what was there. Assumes nothing.
-use mathlib.Core.List.{[], ◌∷◌}
 use mathlib.Core.Path.{◌≡◌}
 use Prim.Native.Nat.{◌-◌}
 use lib.ListN.{length}

@@ -1,6 +1,5 @@
 -- What the search leaves. Assumes nothing.
 use mathlib.Core.Path.{◌∙◌}
-use Prim.Native.Nat.{◌-◌}
 use native.Mathlib.Omega.{arith}
 use Rattle.tries.proofs.Walking.{going_start, going_past, going_last, inside, some_bytes, going_refused, going_on}
 use Rattle.tries.proofs.draw_all.Goals as goal
