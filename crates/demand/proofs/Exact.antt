@@ -106,8 +106,8 @@ module _ (tape : List ℕ) (initial : ℕ) (N : List ℤ) (begins : ℕ) (bytes 
       let a : Allowed (length tape) initial begins (length bytes) = record {
         tape = d.tape_short;
         initial = d.initial_low;
-        start = d.start-low;
-        bytes = d.bytes-short;
+        start = d.start_low;
+        bytes = d.bytes_short;
       } in
       rw (
         allowed_is (length tape) initial begins (length bytes) a,

@@ -1,7 +1,4 @@
--- What the walks over a lent pen are written in, what `emit_two` rests on, and that each public call allows one answer.
-pub mod Walk
-pub mod Parts
-pub mod Loans
-pub mod Calls
+-- What a lent pen comes to, what `emit_two` rests on, and that each public call allows one answer.
+pub mod Lending
 pub mod Two
 pub mod Unique

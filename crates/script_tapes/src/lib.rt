@@ -1,6 +1,7 @@
 // The tapes of case files, which lines in hexadecimal make in lent memory: bytes, bytes so often, and labels one behind the other. Total:
 // what has no room is left out.
 #![tactic(auto)]
+
 ghost use Rattle.std.specs.Prelude.{◌≡◌};
 ghost use Rattle.page.specs.Page.{laid, repeated, bytes_in};
 ghost use Rattle.script_tapes.specs.Tapes.{is_tape, bytes_of, label_of, labels_behind, tape_after};
