@@ -1,6 +1,7 @@
 // A lesson on names: which node a name means where an inner and an outer scope both have it. A station has a gate, and the gate
 // asks. What is printed is to be read aloud.
 #![tactic(auto)]
+
 use descriptors::STDOUT_FILENO;
 use scopes::Found;
 use symbols::{Data, Node, SymbolTable};

@@ -1,6 +1,7 @@
 // Lists the tape on standard input, built from 2000 hex: a line for each record that writes, and one of start, end and passes; or the
 // refused line.
 #![tactic(auto)]
+
 use descriptors::{STDIN_FILENO, STDOUT_FILENO};
 use listing::Listed;
 

@@ -1,6 +1,7 @@
 // Answers each question of 16 bytes on standard input: a branch's place and its target, an i64 each.
 // An answer is the operand byte in capital hex, or `refused`, on a line of its own.
 #![tactic(auto)]
+
 use branch::Distance;
 use descriptors::{STDIN_FILENO, STDOUT_FILENO};
 

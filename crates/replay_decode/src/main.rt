@@ -2,8 +2,9 @@
 // decoded. An answer is mnemonic, mode, suffix, operand length and operand in decimal, or `refused` and the refusal's number,
 // on a line of its own.
 #![tactic(auto)]
-use inverse::{Decoded, Row};
+
 use descriptors::{STDIN_FILENO, STDOUT_FILENO};
+use inverse::{Decoded, Row};
 
 // Prints a number with a space before it.
 fn print_further(n: u64) {

@@ -2,8 +2,9 @@
 // the tape's operators; 16 is NOT, 17 NEG, 18 NOT and then NEG, 19 the low byte and 20 the high byte of the first number.
 // An answer is a number in decimal, or `refused` where the Rust panics, on a line of its own.
 #![tactic(auto)]
-use int64::Number;
+
 use descriptors::{STDIN_FILENO, STDOUT_FILENO};
+use int64::Number;
 
 // What the operation gives.
 fn evaluate(operation: u8, a: i64, b: i64) -> Number {

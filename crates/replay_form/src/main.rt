@@ -3,6 +3,7 @@
 // in the first four of the ten bytes the offset at which the byte stands instead). The tape is kept from question to question.
 // An answer is a line: `done`, or `refused`, document 01's number, `at` and the offset.
 #![tactic(auto)]
+
 use descriptors::{STDIN_FILENO, STDOUT_FILENO};
 use refusals::OutcomeAt;
 

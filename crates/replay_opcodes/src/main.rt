@@ -1,6 +1,7 @@
 // Answers, as the Rust would, each question of 11 bytes on standard input: mnemonic, mode, suffix, and the operand as an i64.
 // An answer is the instruction's bytes in capital hex, or `refused` (the Rust does not say why), on a line of its own.
 #![tactic(auto)]
+
 use descriptors::{STDIN_FILENO, STDOUT_FILENO};
 use opcodes::{Code, Encoded};
 

@@ -2,8 +2,9 @@
 // 3 as_u16, 4 to_le_bytes, 5 as_i64, 6 as_empty_range; the first number is the place, the second what is added or taken off.
 // An answer is one or two numbers in decimal, or `refused` where the Rust panics, on a line of its own.
 #![tactic(auto)]
-use int64::Number;
+
 use descriptors::{STDIN_FILENO, STDOUT_FILENO};
+use int64::Number;
 use program_counter::{Extent, LeBytes, Place, ProgramCounter, Short};
 
 fn print_refused() {

@@ -3,6 +3,7 @@
 // The map is kept from question to question. An answer is a line: a number, the four numbers of an entry, `nothing` where no
 // entry holds the address, `refused` where the Rust panics, and `done` for the others.
 #![tactic(auto)]
+
 use descriptors::{STDIN_FILENO, STDOUT_FILENO};
 use refusals::Outcome;
 use source_map::{Count, Entry, Found, OneEntry};

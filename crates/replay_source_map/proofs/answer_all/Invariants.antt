@@ -1,0 +1,10 @@
+-- `replay_source_map::answer_all` is safe and ends: each turn leaves fewer. The loop keeps the map's length. Assumes nothing.
+use mathlib.Core.Path.{◌≡◌}
+use lib.ListN.{length}
+use Rattle.replay_source_map.proofs.answer_all.Given as goal
+
+abbrev pub invariant-loop-left : goal.invariant-loop-left
+invariant-loop-left l = length l.map ≡ length l.initial.map
+
+abbrev pub decreases-loop-left : goal.decreases-loop-left
+decreases-loop-left l = l.left
