@@ -3,6 +3,7 @@
 // its offset. Where more than sixteen numbers or bytes would stand, the first and the last do. The expected answers stand in stdout, and
 // were written from document 01.
 #![tactic(auto)]
+
 mod memory;
 mod show;
 

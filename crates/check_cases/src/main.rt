@@ -1,12 +1,13 @@
 // What `checker::check` answers to the cases on standard input, whose head says how they are written: a line for each case, with a few
 // words for it, then `accepted`, or the refusal and its offset. Document 01's answers stand in stdout.
 #![tactic(auto)]
+
 mod each;
 mod hand;
 mod show;
 
-use hand::Hand;
 use descriptors::STDIN_FILENO;
+use hand::Hand;
 
 // Room for the cases; for a tape and for bytes, of which one is too many; and for numbers.
 const CASES: usize = 65536;

@@ -4,6 +4,7 @@
 // something sound is refused or something cut is not cut short, or if `evaluate` answers otherwise than `expression_form` where that
 // refuses.
 #![tactic(auto)]
+
 mod dice;
 mod judge;
 mod tally;

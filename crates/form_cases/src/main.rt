@@ -1,8 +1,9 @@
 // What `form`, or `expression_form` and `evaluate`, answer to the cases on standard input, whose head says how they are written: a line for
 // each case. The expected answers stand in stdout, and were written from document 01.
 #![tactic(auto)]
-use evaluator::Evaluated;
+
 use descriptors::{STDIN_FILENO, STDOUT_FILENO};
+use evaluator::Evaluated;
 use refusals::OutcomeAt;
 use symbols::SymbolTable;
 

@@ -12,6 +12,7 @@
 //             fare = fare
 //             .byte fare
 #![tactic(auto)]
+
 use builder::Built;
 use checker::Checked;
 use descriptors::STDOUT_FILENO;

@@ -11,6 +11,7 @@
 //     fare:
 //             room = 251          or 252
 #![tactic(auto)]
+
 use builder::Built;
 use descriptors::STDOUT_FILENO;
 use symbols::NODES;

@@ -2,6 +2,7 @@
 // whose head says how it is written: a line for each question, with document 01's number behind it, or 0 where the call was done. The
 // expected numbers stand in stdout, and were written from document 01.
 #![tactic(auto)]
+
 mod answers;
 mod maps;
 mod pens;

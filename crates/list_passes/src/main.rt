@@ -3,10 +3,11 @@
 // last two columns are equal. A tape whose form or names are refused gives the refused line alone; one that does not settle gives the
 // columns of all passes, and then the refused line.
 #![tactic(auto)]
+
 mod line;
 
-use form::LONGEST;
 use descriptors::{STDIN_FILENO, STDOUT_FILENO};
+use form::LONGEST;
 use passes::{LIMIT, Passes};
 use refusals::NOT_SETTLED;
 use symbols::{Data, NODES};

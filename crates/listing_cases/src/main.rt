@@ -2,6 +2,7 @@
 // that a listing can give, what happens to the lent text, and listings at the limits. A case has a few words, then the tape's bytes, or
 // how many there are, and then its text. The expected lines stand in stdout; docs/DECISIONS.md says where they come from.
 #![tactic(auto)]
+
 mod limits;
 mod part;
 mod show;

@@ -3,6 +3,7 @@
 // empty. The tape is kept from question to question. An answer is a line: `done`; or `refused`, document 01's number, `at` and the
 // offset; or `finished`, start, end and passes, the numbers behind `:`, and behind another `:` a checksum of the whole image.
 #![tactic(auto)]
+
 use builder::Built;
 use descriptors::{STDIN_FILENO, STDOUT_FILENO};
 use symbols::NODES;

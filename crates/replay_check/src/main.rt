@@ -5,6 +5,7 @@
 // numbers and no covered bytes. All three are kept from question to question. An answer is a line: `done`, `accepted`, or `refused`,
 // document 01's number, `at` and the offset.
 #![tactic(auto)]
+
 use checker::Checked;
 use descriptors::{STDIN_FILENO, STDOUT_FILENO};
 

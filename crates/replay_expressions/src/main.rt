@@ -5,8 +5,9 @@
 // from question to question. An answer is a line: `done`, a node, a number, or `refused`, document 01's number, `at` and the
 // offset.
 #![tactic(auto)]
-use evaluator::Evaluated;
+
 use descriptors::{STDIN_FILENO, STDOUT_FILENO};
+use evaluator::Evaluated;
 use symbols::{Data, Inserted, Node, SymbolTable};
 
 // The operations; any other is evaluate.

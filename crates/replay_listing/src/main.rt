@@ -3,6 +3,7 @@
 // empty. The tape is kept from question to question. An answer is a line: `done`; or the lines of the listing with `; ` between two;
 // or, where its text is long, its length, a checksum of it and its last line, with ` : ` between two.
 #![tactic(auto)]
+
 use descriptors::{STDIN_FILENO, STDOUT_FILENO};
 use listing::Listed;
 

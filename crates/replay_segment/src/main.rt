@@ -7,8 +7,9 @@
 // emit are then the calls that change a pen where it is, and new is the same. Behind the answer stands ` differs` if the two pens
 // afterwards or the two answers are not the same, numbers included, and behind that of range_data if the two images are not.
 #![tactic(auto)]
-use int64::Number;
+
 use descriptors::{STDIN_FILENO, STDOUT_FILENO};
+use int64::Number;
 use pen::{NewPen, Pen};
 use program_counter::{Extent, Place};
 use refusals::Outcome;

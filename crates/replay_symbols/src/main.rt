@@ -5,6 +5,7 @@
 // ids). Id 0 is super. The table is kept from question to question. An answer is a line: a node or `nothing`, a number or
 // `unresolved`, `done`, of query_all the count and the nodes, or `refused` and document 01's number.
 #![tactic(auto)]
+
 use descriptors::{STDIN_FILENO, STDOUT_FILENO};
 use questions::Got;
 use refusals::Outcome;

@@ -2,6 +2,7 @@
 // input, whose head says how it is written: a line for each question, and its answer, which is a node, `nothing`, `unresolved`, a count,
 // `done`, or `refused` and document 01's number. The expected answers stand in stdout, and were written from document 01.
 #![tactic(auto)]
+
 mod asks;
 mod show;
 mod tables;

@@ -1,0 +1,10 @@
+-- `print_each_byte` is safe and ends: each turn leaves fewer bytes. Nothing has to hold from turn to turn. Assumes nothing.
+use Prim.Native.Nat.{◌-◌}
+use lib.ListN.{length}
+use Rattle.build_cases.proofs.show.print_each_byte.Given as goal
+
+abbrev pub invariant-loop-i : goal.invariant-loop-i
+invariant-loop-i l = Unit {0}
+
+abbrev pub decreases-loop-i : goal.decreases-loop-i
+decreases-loop-i l = length l.bytes - l.i

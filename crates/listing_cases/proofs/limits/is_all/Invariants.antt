@@ -1,0 +1,10 @@
+-- `is_all` is safe and ends: each turn leaves fewer bytes. Nothing has to hold from turn to turn. Assumes nothing.
+use Prim.Native.Nat.{◌-◌}
+use lib.ListN.{length}
+use Rattle.listing_cases.proofs.limits.is_all.Given as goal
+
+abbrev pub invariant-loop-i : goal.invariant-loop-i
+invariant-loop-i l = Unit {0}
+
+abbrev pub decreases-loop-i : goal.decreases-loop-i
+decreases-loop-i l = length l.bytes - l.i

@@ -1,2 +1,0 @@
--- What the walks of the three lent calls share.
-pub mod Held
