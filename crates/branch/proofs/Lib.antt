@@ -1,3 +1,3 @@
--- The theorems of this crate, with the laws that its proofs share, and that its public call allows one answer.
+-- The theorems of this crate, with a law that a proof cites, and that its public call allows one answer.
 pub mod Branch
 pub mod Unique

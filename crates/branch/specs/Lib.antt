@@ -1,3 +1,2 @@
 -- The definitions that the contracts of this crate cite.
 pub mod Branch
-pub mod Says

@@ -7,56 +7,31 @@
 mod memory;
 mod show;
 
-use descriptors::STDIN_FILENO;
+use cases::Tape;
+use console::Console;
+use std::io;
 
 // Room for the cases, and for a tape that is one byte too long.
 const CASES: usize = 65536;
 
 const TAPE: usize = 65537;
 
-// Reads the cases.
-fn main() {
-    let mut cases = [0u8; CASES];
-    let mut tape = [0u8; TAPE];
-    let length = io::read_full(STDIN_FILENO, &mut cases);
-    run(&cases[..length], &mut tape);
-}
-
-// Goes from line to line.
-fn run(cases: &[u8], tape: &mut [u8]) {
-    let count = script::lines(cases);
-    let mut end = 0;
-    let mut i = 0;
-    while i < count {
-        end = obey(script::line(cases, i), tape, end);
-        i += 1;
-    }
-}
-
-// Makes the tape, or builds it; gives its length.
-fn obey(line: &[u8], tape: &mut [u8], length: usize) -> usize {
-    if script_tapes::is_tape(line) {
-        return script_tapes::put_tape(tape, length, line);
-    }
-    ask(line, page::cut(tape, length));
-    length
-}
-
 // Builds the tape as a line says.
-fn ask(line: &[u8], tape: &[u8]) {
-    if script::is_silent(line) {
-        return;
+fn ask(rt: &impl Print, line: &[u8], tape: &[u8]) -> io::Result<()> {
+    match script::command(line, b"build left sized") {
+        0 => memory::build(rt, line, tape)?,
+        1 => memory::left(rt, line, tape)?,
+        2 => memory::sized(rt, line, tape)?,
+        _ => return cases::tell(rt, line),
     }
-    build(line, tape);
-    show::print(b"\n");
+    println!(rt;)
 }
 
-// The same, without the end of the line that is printed.
-fn build(line: &[u8], tape: &[u8]) {
-    match script::command(line, b"build left sized") {
-        0 => memory::build(line, tape),
-        1 => memory::left(line, tape),
-        2 => memory::sized(line, tape),
-        _ => show::tell(line),
-    }
+fn main() {
+    let _ = cases::ask_each(
+        &Console,
+        &mut [0u8; CASES],
+        &mut Tape::<TAPE>::new(),
+        |rt, line, tape| ask(rt, line, tape),
+    );
 }

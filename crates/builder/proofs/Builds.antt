@@ -1,8 +1,8 @@
--- Numbers that stand in arrays give the same build and the same list; and what each call answers, put together. Assumes nothing.
-use mathlib.Core.List.{List, ◌∷◌, map}
-use mathlib.Core.Option.{Option}
+-- Numbers that stand in an array give the same build and the same list; and what each call answers, put together. Assumes nothing.
+use Rattle.std.specs.Prelude.{Option}
+use mathlib.Core.List.{List, map}
 use mathlib.Core.Path.{◌≡◌, refl, sym, ap, ◌∙◌, subst}
-use Prim.Native.Nat.{ℕ, ◌-◌, ◌≤◌, ◌<◌}
+use Prim.Native.Nat.{ℕ, ◌≤◌, ◌<◌}
 use native.Mathlib.Omega.{arith}
 use lib.IntN.{ℤ, pos}
 use lib.ListN.{length, replicate, drop}
@@ -12,7 +12,6 @@ use Rattle.symbols.specs.Symbols.{number_or0}
 use Rattle.form.specs.Form.{max_tape}
 use Rattle.form.specs.Statements.{Statement, statements}
 use Rattle.evaluator.specs.Expression.{Value}
-use Rattle.walk.specs.declared.Numbers.{Numbers}
 use Rattle.walk.specs.Walk.{Origin, origin}
 use Rattle.walk.specs.Values.{Values, numbered, declarations}
 use Rattle.walk.specs.Numbers.{numbers_in, numbers_by, reads_noted}
@@ -24,7 +23,7 @@ use Rattle.tries.specs.Write.{tried_all}
 use Rattle.tries.proofs.Agrees.{write_allowed}
 use Rattle.number_list.specs.Lists.{number_list}
 use Rattle.number_list.specs.Calls.{gathered}
-use Rattle.number_list.proofs.Kept.{gather_told, list_zeros}
+use Rattle.number_list.proofs.Kept.{gather_told, list_numbers}
 use Rattle.compares.specs.Compared.{builder}
 use Rattle.reads.specs.Reads.{reads_on}
 use Rattle.reads.proofs.Names.{few_names}
@@ -39,7 +38,7 @@ use Rattle.builder.specs.Steps.{leaving}
 abbrev Reads : Type 0
 Reads = (ℕ → Option ℤ) → ℤ → ℕ → Value
 
--- ---- numbers that stand in arrays
+-- ---- numbers that stand in an array
 
 -- a build after n passes, with this number list
 abbrev end_of : ℕ → List ℤ → Trying → Build
@@ -52,26 +51,25 @@ end_of n l t = record {
 }
 
 -- the build whose passes gave these numbers, taken by node
-unfoldable tried_on : (tape nodes : List ℕ) (initial n : ℕ) (numbers : Numbers) → AnswerAt Build
+unfoldable tried_on : (tape nodes : List ℕ) (initial n : ℕ) (numbers : List (Option ℤ)) → AnswerAt Build
 tried_on tape nodes initial n numbers =
-    mapped (end_of n (number_list (statements tape) (drop 1 numbers.number))) (tried_all tape nodes numbers initial builder)
+    mapped (end_of n (number_list (statements tape) (drop 1 (map number_or0 numbers)))) (tried_all tape nodes numbers initial builder)
 
 module _ (r : Reads) (xs : List Statement) (o : Origin) (few : declarations xs < 1024) where
   -- the tries with settled numbers, taken by node
   abbrev arrays : ℕ → Values → AnswerAt Build
   arrays n L =
       let numbers = numbers_by L in
-      mapped (end_of n (number_list xs (drop 1 numbers.number)))
-      (tries r builder (numbers_in numbers.known numbers.number) (start o) xs)
+      mapped (end_of n (number_list xs (drop 1 (map number_or0 numbers))))
+      (tries r builder (numbers_in numbers) (start o) xs)
 
   tried_arrays : (n : ℕ) (L : Values) → settled r xs o ≡ Fine (n, L) → arrays n L ≡ tried_with r xs o (n, L)
-  unfolding numbers_by
   tried_arrays n L e =
       let short : length L < 1024 = omega (arith, ap length (least r xs o e).1, passes_length r xs o n) in
-      ap (λ (f : ℕ → Option ℤ). mapped (end_of n (number_list xs (drop 1 (numbers_by L).number))) (tries r builder f (start o) xs))
+      ap (λ (f : ℕ → Option ℤ). mapped (end_of n (number_list xs (drop 1 (map number_or0 (numbers_by L))))) (tries r builder f (start o) xs))
       (by_node_lem L short)
       ∙ ap (λ (l : List ℤ). mapped (end_of n l) (tries r builder (numbered L) (start o) xs))
-      (list_zeros xs (map number_or0 L) (1024 - length (pos 0 ∷ map number_or0 L)))
+      (list_numbers xs L)
 
 -- ---- what a build leaves
 
@@ -86,9 +84,9 @@ module _ (image : List ℕ) (list : List ℤ) where
 
 -- the tries of a tape whose arguments are in their ranges, with an image and a list that is zero
 module _ (tape nodes : List ℕ) (initial : ℕ) (asked : (length tape ≤ max_tape) × (initial ≤ size) × (declarations (statements tape) < 1024))
-    (image : List ℕ) (whole : length image ≡ size) (list : List ℤ) (zero : list ≡ replicate 1024 (pos 0)) (n : ℕ) (numbers : Numbers) where
+    (image : List ℕ) (whole : length image ≡ size) (list : List ℤ) (zero : list ≡ replicate 1024 (pos 0)) (n : ℕ) (numbers : List (Option ℤ)) where
   abbrev numbers_list : List ℤ
-  numbers_list = gathered tape numbers.number
+  numbers_list = gathered tape numbers
 
   left_finished : {b : AnswerAt Report} {image' : List ℕ} {list' : List ℤ}
       → (b, image', list') ≡ finish_of tape nodes numbers n initial image list
@@ -99,9 +97,9 @@ module _ (tape nodes : List ℕ) (initial : ℕ) (asked : (length tape ≤ max_t
       go (tried_all tape nodes numbers initial builder) (e ∙ ap (finished n numbers_list image list) all)
     where
       go : (w : AnswerAt Trying) → (b, image', list') ≡ finished n numbers_list image list w
-          → Left b image image' list list' (mapped (end_of n (number_list (statements tape) (drop 1 numbers.number))) w)
+          → Left b image image' list list' (mapped (end_of n (number_list (statements tape) (drop 1 (map number_or0 numbers)))) w)
       go (Fine t) e =
-          let told = gather_told tape numbers.number {list = list} (refl, refl) zero asked.2 in
+          let told = gather_told tape numbers {list = list} (refl, refl) zero asked.2 in
           let answer = ap (λ x. x.0) e ∙ ap (λ (k : ℕ). Fine (t.page.pen.start, t.page.pen.end, k, n)) told.0 in
           let listed = ap (λ x. x.2) e ∙ told.1 in
           λ i. (answer i, (e i).1, listed i)
@@ -111,7 +109,7 @@ module _ (tape nodes : List ℕ) (initial : ℕ) (asked : (length tape ≤ max_t
 
 module _ (tape nodes : List ℕ) (initial : ℕ) (low : initial ≤ size) (long : length nodes ≡ max_tape) where
   -- behind a layout that settled, the build is the tries with its numbers
-  laid_tried : {n : ℕ} {numbers : Numbers} {L : Values} → layout_of tape initial (length nodes) ≡ Fine (n, L) → numbers ≡ numbers_by L
+  laid_tried : {n : ℕ} {numbers : List (Option ℤ)} {L : Values} → layout_of tape initial (length nodes) ≡ Fine (n, L) → numbers ≡ numbers_by L
       → {nodes' : List ℕ} → nodes' ≡ noted_of tape initial nodes → tried_on tape nodes' initial n numbers ≡ built tape (origin initial)
   unfolding tried_on tried_all built_by
   laid_tried {n} {L = L} laid is {nodes'} noted =
@@ -125,7 +123,7 @@ module _ (tape nodes : List ℕ) (initial : ℕ) (low : initial ≤ size) (long 
       ∙ built_noted tape o fine nodes long notes
 
   -- and the end of the build is what is left
-  pub left_laid : length tape ≤ max_tape → {n : ℕ} {numbers : Numbers}
+  pub left_laid : length tape ≤ max_tape → {n : ℕ} {numbers : List (Option ℤ)}
       → (L : Values) × (layout_of tape initial (length nodes) ≡ Fine (n, L)) × (numbers ≡ numbers_by L)
       → {nodes' : List ℕ} → nodes' ≡ noted_of tape initial nodes
       → (image : List ℕ) → length image ≡ size → (list : List ℤ) → list ≡ replicate 1024 (pos 0)

@@ -14,32 +14,27 @@ ghost use Rattle.builder.specs.Steps.{leaving};
 
 pub use finish::Built;
 use form::LONGEST;
-use passes::Passes;
-use refusals::ARGUMENT;
+pub use pen::SIZE;
+use refusals::{Fault, Refusal};
 use symbols::NODES;
-
-// How many bytes an image has; also the greatest place.
-pub const SIZE: usize = 65536;
 
 // How many places the work memory has: one for each offset of a tape.
 pub const WORK: usize = 65536;
 
 // Builds a tape from an initial place.
+#[tactic(auto, unfolding(crate::specs::Call::build_of))]
 pub fn build(
     tape: &[u8],
     initial: usize,
     image: &mut [u8],
     numbers: &mut [i64],
     work: &mut [u16],
-) -> Built
+) -> Result<Built, Fault>
     ensures { (says_built result, memory image.new numbers.new work.new)
         ≡ build_of tape.now initial (memory image.old numbers.old work.old) }
 {
     if !is_allowed(tape.len(), initial, image.len(), numbers.len(), work.len()) {
-        return Built::Refused {
-            number: ARGUMENT,
-            at: 0,
-        };
+        return Err(Refusal::Argument.at(0));
     }
     number_list::clear(numbers);
     let built = build_laid(tape, initial, image, numbers, work);
@@ -48,22 +43,11 @@ pub fn build(
 }
 
 // Whether the lengths and the initial place are in their ranges.
+#[tactic(auto, unfolding(crate::specs::Call::is_allowed))]
 fn is_allowed(tape: usize, initial: usize, image: usize, list: usize, work: usize) -> bool
     ensures { result ≡ is_allowed tape initial image list work }
 {
-    if LONGEST < tape {
-        return false;
-    }
-    if SIZE < initial {
-        return false;
-    }
-    if image != SIZE {
-        return false;
-    }
-    if list != NODES {
-        return false;
-    }
-    work == WORK
+    tape <= LONGEST && initial <= SIZE && image == SIZE && list == NODES && work == WORK
 }
 
 // The build behind its arguments: the layout.
@@ -73,20 +57,21 @@ fn build_laid(
     image: &mut [u8],
     list: &mut [i64],
     nodes: &mut [u16],
-) -> Built
+) -> Result<Built, Fault>
     requires { (length tape.now ≤ max_tape) × (initial ≤ size) × (length image.old ≡ size) × (list.old ≡ replicate max_nodes (pos 0))
         × (length nodes.old ≡ work_places) }
     ensures { ((says_built result, image.new, list.new)
         ≡ leaving image.old list.old (built tape.now (origin initial)))
         × (length nodes.new ≡ length nodes.old) }
 {
-    let settled = layout::lay_out(tape, initial, nodes);
-    let answer = settled.answer;
-    match answer {
-        Passes::Refused { number, at } => Built::Refused { number, at },
-        Passes::After(n) => {
-            let numbers = settled.numbers;
-            finish::finish(tape, nodes, numbers, n, initial, image, list)
-        }
-    }
+    let settled = layout::lay_out(tape, initial, nodes)?;
+    finish::finish(
+        tape,
+        nodes,
+        settled.numbers,
+        settled.passes,
+        initial,
+        image,
+        list,
+    )
 }

@@ -1,16 +1,14 @@
 -- Numbers that a pass gives back: nothing that a try compares differs, so all ways to compare come to the same tries. Assumes nothing.
-use mathlib.Core.Bool.{Bool, true, false, ◌||◌}
+use Rattle.std.specs.Prelude.{Option, None, Some}
 use mathlib.Core.List.{List, [], ◌∷◌, ◌++◌}
-use mathlib.Core.Option.{Option, none, some}
 use mathlib.Core.Path.{◌≡◌, refl, sym, ap, ◌∙◌, subst}
 use Prim.Native.Nat.{ℕ, suc, ◌+◌}
 use native.Mathlib.Omega.{arith}
-use lib.Dec.{eqb}
 use lib.IntN.{ℤ}
 use lib.ListN.{get_or, drop}
 use lib.Seq.{get_or-drop, drop-drop, drop_at}
-use Rattle.refusals.specs.Answer.{pick}
 use Rattle.refusals.specs.AnswerAt.{AnswerAt, Fine, Fault, and_then}
+use Rattle.refusals.specs.declared.Refusal.{Refusal}
 use Rattle.form.specs.Statements.{What, Instruction, Open, Close, Label, Constant, SetPlace, Byte, Word, Screen, Statement}
 use Rattle.evaluator.specs.Expression.{Value, Number, Unresolved, Refuses}
 use Rattle.walk.specs.declared.Walk.{Walk}
@@ -28,21 +26,18 @@ use Rattle.tries.proofs.Passed.{tried_has}
 -- ---- one statement whose name has the number that a pass gives it
 
 -- a number that is the one in the list passes
-compared_own : (n : ℕ) {own : Option ℤ} {z : ℤ} (at : ℕ) → own ≡ some z → compared n own z at ≡ Fine []
-compared_own n {own} {z} at e = rw (e, eq_value_same (some z)) (go (eqb n 0))
-  where
-    go : (t : Bool) → ◌≡◌ {A = AnswerAt (List ℕ)} (pick (t || true) (Fine []) (Fault n at)) (Fine [])
-    go true = refl
-    go false = refl
+compared_own : (r : Option Refusal) {own : Option ℤ} {z : ℤ} (at : ℕ) → own ≡ Some z → compared r own z at ≡ Fine []
+compared_own None at e = refl
+compared_own (Some why) {z = z} at e = rw (e, eq_value_same (Some z)) refl
 
 module _ (L : Values) (w : Walk) (vs : Values) where
   -- the numbers from here on begin with this one
   own_first : {v : Option ℤ} → v ∷ vs ≡ drop w.names L → numbered L (suc w.names) ≡ v
   own_first {v} e =
       let same : w.names + 0 ≡ w.names = omega arith in
-      ap (λ (k : ℕ). get_or L k none) (sym same)
-      ∙ sym (get_or-drop w.names L 0 none)
-      ∙ ap (λ (l : Values). get_or l 0 none) (sym e)
+      ap (λ (k : ℕ). get_or L k None) (sym same)
+      ∙ sym (get_or-drop w.names L 0 None)
+      ∙ ap (λ (l : Values). get_or l 0 None) (sym e)
 
   -- behind the statement the rest is left
   left_behind : (x : What) (v : Option ℤ) → gives w x v ++ vs ≡ drop w.names L → vs ≡ drop (step w x v).names L

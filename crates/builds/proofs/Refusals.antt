@@ -1,8 +1,8 @@
 -- A build whose arguments are in their ranges is refused with one of the numbers listed for it; so a 1 is for arguments alone.
 -- Assumes nothing.
+use Rattle.std.specs.Prelude.{Option, None, Some}
 use mathlib.Core.Bool.{true, false}
 use mathlib.Core.List.{List}
-use mathlib.Core.Option.{Option, none, some}
 use mathlib.Core.Path.{◌≡◌, refl, subst}
 use Prim.Native.Nat.{ℕ, ◌≤◌}
 use lib.IntN.{ℤ}
@@ -52,8 +52,8 @@ module _ (tape : List ℕ) (o : Origin) (few : length tape ≤ max_tape) (low : 
     settled_number = go (least_from (repeats reads (statements tape) o) limit 1)
       where
         go : (n : Option ℕ) → FaultBy Among (settled_by reads (statements tape) o n)
-        go none = refl
-        go (some n) = tt
+        go None = refl
+        go (Some n) = tt
 
     tried_number : (n : ℕ) (L : Values) → settled reads (statements tape) o ≡ Fine (n, L)
         → FaultBy Among (tried_with reads (statements tape) o (n, L))
@@ -61,7 +61,7 @@ module _ (tape : List ℕ) (o : Origin) (few : length tape ≤ max_tape) (low : 
     tried_number n L e =
         mapped_by (finished reads (statements tape) o n L) (tries reads builder (numbered L) (start o) (statements tape))
         (subst (FaultBy Among) (settled_either reads (statements tape) o e plain builder)
-        (tries_number Among refl refl refl refl refl plain (λ z. absurd (z refl)) (λ z. absurd (z refl)) reads (numbered L) tape
+        (tries_number Among refl refl refl refl refl plain tt tt reads (numbered L) tape
         (computes tape t (numbered L)) (names_sound tape fine).0 o low))
 
     built_by_number : FaultBy Among (built_by reads (statements tape) o)

@@ -1,6 +1,5 @@
 -- The build of a tape. Document 01: form, names, then "Passes". Assumes nothing: these are definitions.
-use Rattle.std.specs.Prelude.{ℕ, List, map, ℤ}
-use Rattle.std.proofs.Math.Option.{Option}
+use Rattle.std.specs.Prelude.{ℕ, List, map, ℤ, Option}
 use Rattle.refusals.specs.AnswerAt.{AnswerAt, mapped, and_then}
 use Rattle.symbols.specs.Symbols.{number_or0}
 use Rattle.form.specs.Statements.{Statement, statements}

@@ -1,95 +1,92 @@
 // What is handed in with a tape: numbers and bytes.
 
-// How long the tape is, how many numbers there are, and how many bytes.
-#[derive(Clone, Copy)]
-pub struct Hand {
-    pub tape: usize,
-    pub numbers: usize,
-    pub bytes: usize,
-}
+// Room for numbers; and for bytes, of which one is too many.
+const NUMBERS: usize = 2000;
 
-// Nothing.
-pub fn empty() -> Hand {
-    Hand {
-        tape: 0,
-        numbers: 0,
-        bytes: 0,
-    }
+const BYTES: usize = 65537;
+
+// How many numbers and bytes there are, of those for which there is room.
+#[derive(Drop)]
+pub struct Hand {
+    numbers: [i64; NUMBERS],
+    count: usize,
+    bytes: [u8; BYTES],
+    length: usize,
 }
 
 impl Hand {
-    // With a tape of another length.
-    pub fn with_tape(mut self, length: usize) -> Hand {
-        self.tape = length;
-        self
+    // Nothing.
+    pub fn new() -> Self {
+        Hand {
+            numbers: [0; NUMBERS],
+            count: 0,
+            bytes: [0; BYTES],
+            length: 0,
+        }
     }
 
-    // With so many numbers.
-    pub fn with_numbers(mut self, count: usize) -> Hand {
-        self.numbers = count;
-        self
+    // The numbers.
+    pub fn numbers(&self) -> &[i64] {
+        self.numbers.get(..self.count).unwrap_or(&self.numbers)
     }
 
-    // With so many bytes.
-    pub fn with_bytes(mut self, count: usize) -> Hand {
-        self.bytes = count;
-        self
+    // The bytes.
+    pub fn bytes(&self) -> &[u8] {
+        page::cut(&self.bytes, self.length)
     }
-}
 
-// Another byte: AT BYTE.
-pub fn put_byte(bytes: &mut [u8], line: &[u8]) {
-    page::put_hex(bytes, script::number(line, 1), script::words_from(line, 2));
-}
-
-// Another number: AT Z.
-pub fn put_number(numbers: &mut [i64], line: &[u8]) {
-    put(numbers, script::number(line, 1), signed(line, 2));
-}
-
-// A number at an index, if there is room.
-fn put(numbers: &mut [i64], at: usize, number: i64) {
-    if at < numbers.len() {
-        numbers[at] = number;
+    // The byte at an index.
+    pub fn byte(&self, at: usize) -> u8 {
+        little::u8_at(&self.bytes, at)
     }
-}
 
-// The numbers of a line. Gives how many there are.
-pub fn put_each(numbers: &mut [i64], line: &[u8]) -> usize {
-    let count = script::words(script::words_from(line, 1));
-    let mut i = 0;
-    while i < count {
-        put(numbers, i, signed(line, i + 1));
-        i += 1;
+    // Puts a byte at an index, if there is room.
+    pub fn set_byte(&mut self, at: usize, byte: u8) {
+        page::put(&mut self.bytes, at, byte);
     }
-    count
-}
 
-// The same number so often: N Z. Gives how many there are.
-pub fn put_often(numbers: &mut [i64], line: &[u8]) -> usize {
-    let count = script::number(line, 1);
-    let number = signed(line, 2);
-    let mut i = 0;
-    while i < count {
-        put(numbers, i, number);
-        i += 1;
+    // Other bytes: BYTES.
+    pub fn set_bytes(&mut self, line: &[u8]) {
+        self.length = script_tapes::put_bytes(&mut self.bytes, 0, line);
     }
-    count
+
+    // Another byte: AT BYTE.
+    pub fn put_byte(&mut self, line: &[u8]) {
+        page::put_hex(
+            &mut self.bytes,
+            script::number(line, 1),
+            script::words_from(line, 2),
+        );
+    }
+
+    // Other numbers: Z Z ..
+    pub fn set_numbers(&mut self, line: &[u8]) {
+        let count = script::words(script::words_from(line, 1));
+        for (i, number) in self.numbers.iter_mut().enumerate().take(count) {
+            *number = signed(line, i + 1);
+        }
+        self.count = count;
+    }
+
+    // The same number so often: N Z.
+    pub fn fill_numbers(&mut self, line: &[u8]) {
+        self.numbers.fill(signed(line, 2));
+        self.count = script::number(line, 1);
+    }
+
+    // Another number: AT Z.
+    pub fn put_number(&mut self, line: &[u8]) {
+        if let Some(number) = self.numbers.get_mut(script::number(line, 1)) {
+            *number = signed(line, 2);
+        }
+    }
 }
 
 // The number of a word, which may be below 0.
 fn signed(line: &[u8], index: usize) -> i64 {
     let size = script::number(line, index) as u64;
-    if little::u8_at(script::word(line, index), 0) == b'-' {
-        return int64::of_word(std::num::wrapping_sub_u64(0, size));
+    if script::word(line, index).starts_with(b"-") {
+        return int64::of_word(size.wrapping_neg());
     }
     int64::of_word(size)
-}
-
-// The first so many numbers, or all.
-pub fn first(numbers: &[i64], count: usize) -> &[i64] {
-    if numbers.len() < count {
-        return numbers;
-    }
-    &numbers[0..count]
 }

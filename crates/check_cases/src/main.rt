@@ -6,70 +6,45 @@ mod each;
 mod hand;
 mod show;
 
-use descriptors::STDIN_FILENO;
+use cases::Tape;
+use console::Console;
 use hand::Hand;
+use std::io;
 
-// Room for the cases; for a tape and for bytes, of which one is too many; and for numbers.
+// Room for the cases, and for a tape that is one byte too long.
 const CASES: usize = 65536;
 
-const ROOM: usize = 65537;
+const TAPE: usize = 65537;
 
-const NUMBERS: usize = 2000;
-
-// Reads the cases.
-fn main() {
-    let mut cases = [0u8; CASES];
-    let mut tape = [0u8; ROOM];
-    let mut numbers = [0i64; NUMBERS];
-    let mut bytes = [0u8; ROOM];
-    let length = io::read_full(STDIN_FILENO, &mut cases);
-    run(&cases[..length], &mut tape, &mut numbers, &mut bytes);
-}
-
-// Goes from line to line.
-fn run(cases: &[u8], tape: &mut [u8], numbers: &mut [i64], bytes: &mut [u8]) {
-    let count = script::lines(cases);
-    let mut hand = hand::empty();
-    let mut i = 0;
-    while i < count {
-        hand = obey(script::line(cases, i), hand, tape, numbers, bytes);
-        i += 1;
-    }
-}
-
-// Changes what is handed in, or checks it; gives how long it is.
-fn obey(line: &[u8], hand: Hand, tape: &mut [u8], numbers: &mut [i64], bytes: &mut [u8]) -> Hand {
-    if script_tapes::is_tape(line) {
-        return hand.with_tape(script_tapes::put_tape(tape, hand.tape, line));
-    }
+// Changes what is handed in with a tape, or checks it.
+fn obey(rt: &impl Print, line: &[u8], tape: &[u8], hand: &mut Hand) -> io::Result<()> {
     match script::command(line, b"bytes byte numbers filled number") {
-        0 => hand.with_bytes(script_tapes::put_bytes(bytes, 0, line)),
-        1 => {
-            hand::put_byte(bytes, line);
-            hand
-        }
-        2 => hand.with_numbers(hand::put_each(numbers, line)),
-        3 => hand.with_numbers(hand::put_often(numbers, line)),
-        4 => {
-            hand::put_number(numbers, line);
-            hand
-        }
-        _ => {
-            ask(line, hand, tape, numbers, bytes);
-            hand
-        }
+        0 => hand.set_bytes(line),
+        1 => hand.put_byte(line),
+        2 => hand.set_numbers(line),
+        3 => hand.fill_numbers(line),
+        4 => hand.put_number(line),
+        _ => return ask(rt, line, tape, hand),
     }
+    Ok(())
 }
 
 // Checks as a line says.
-fn ask<'a>(line: &[u8], hand: Hand, tape: &'a [u8], numbers: &'a [i64], bytes: &mut [u8]) {
-    if script::is_silent(line) {
-        return;
-    }
+fn ask(rt: &impl Print, line: &[u8], tape: &[u8], hand: &mut Hand) -> io::Result<()> {
     match script::command(line, b"check each built") {
-        0 => show::check(line, hand, tape, numbers, bytes),
-        1 => each::check(line, hand, tape, numbers, bytes),
-        2 => show::built(line, page::cut(tape, hand.tape)),
-        _ => show::tell(line),
+        0 => show::check(rt, line, tape, hand),
+        1 => each::check(rt, line, tape, hand),
+        2 => show::built(rt, line, tape),
+        _ => cases::tell(rt, line),
     }
+}
+
+fn main() {
+    let mut hand = Hand::new();
+    let _ = cases::ask_each(
+        &Console,
+        &mut [0u8; CASES],
+        &mut Tape::<TAPE>::new(),
+        |rt, line, tape| obey(rt, line, tape, &mut hand),
+    );
 }

@@ -1,20 +1,17 @@
--- Numbers that stand in arrays give the same check, and so do the notes of a tape's names. Assumes nothing.
+-- Numbers that stand in an array give the same check, and so do the notes of a tape's names. Assumes nothing.
+use Rattle.std.specs.Prelude.{Option}
 use mathlib.Core.Bool.{true, ◌&&◌, and-eq-true_iff}
 use mathlib.Core.List.{List}
-use mathlib.Core.Option.{Option}
 use mathlib.Core.Path.{◌≡◌, refl, sym, ap, ◌∙◌}
 use Prim.Native.Nat.{ℕ, ◌≤◌, ◌<◌}
 use native.Mathlib.Omega.{arith}
 use lib.Dec.{eqb, leb}
 use lib.IntN.{ℤ}
 use lib.ListN.{length, replicate, length-replicate}
-use borrow.Author.Tests.{eq-eqb, ne_eqb, leb-true}
+use borrow.Author.Tests.{eq-eqb, leb-true}
 use Rattle.refusals.specs.Answer.{pick}
 use Rattle.refusals.specs.AnswerAt.{AnswerAt, Fine, Fault, and_then}
-use Rattle.refusals.specs.Says.{says_at}
 use Rattle.refusals.specs.Table.{number_differs}
-use Rattle.refusals.specs.declared.OutcomeAt.{OutcomeAt}
-use Rattle.refusals.specs.declared.OutcomeAt.TheVariants as outcome
 use Rattle.refusals.proofs.Pick.{at_true}
 use Rattle.pen.specs.Pens.{size}
 use Rattle.edges.specs.Edges.{max_nodes}
@@ -22,9 +19,8 @@ use Rattle.symbols.specs.declared.SymbolTable.{SymbolTable}
 use Rattle.form.specs.Form.{max_tape}
 use Rattle.form.specs.Statements.{Statement, statements}
 use Rattle.evaluator.specs.Expression.{Value}
-use Rattle.names.specs.Names.{left, names_of, declare_of, notes_after}
+use Rattle.names.specs.Names.{names_of, declare_of, notes_after}
 use Rattle.names.proofs.Kept.{notes_are}
-use Rattle.walk.specs.declared.Numbers.{Numbers}
 use Rattle.walk.specs.Walk.{Origin, origin}
 use Rattle.walk.specs.Values.{numbered, declarations}
 use Rattle.walk.specs.Numbers.{numbers_in, numbers_by, reads_noted}
@@ -34,7 +30,7 @@ use Rattle.tries.specs.Tries.{Trying, start, tries}
 use Rattle.tries.specs.Write.{tried_all, write_of}
 use Rattle.tries.proofs.Agrees.{tries_alike, write_allowed}
 use Rattle.reads.specs.Reads.{reads_on}
-use Rattle.reads.proofs.Names.{names_refused, names_done, declare_is, few_names}
+use Rattle.reads.proofs.Names.{declare_is, few_names}
 use Rattle.reads.proofs.Reading.{all_alike}
 use Rattle.number_list.specs.Lists.{count, values_of}
 use Rattle.number_list.proofs.Kept.{values_length}
@@ -88,16 +84,12 @@ module _ (tape nodes : List ℕ) (initial : ℕ) (numbers : List ℤ) (from : �
 
   -- n: how many numbers a list has for the tape
   module _ {n : ℕ} (n-is : n ≡ count xs) where
-    pub numbers_differ : (n ≡ length numbers → ⊥) → Fault number_differs 0 ≡ verdict
-    unfolding checked_by
-    numbers_differ h = rw (ne_eqb (length numbers) (count xs) (λ e. h (n-is ∙ sym e)))
-
     numbers_fit : n ≡ length numbers → and_then all_tried (judged from bytes) ≡ verdict
     unfolding checked_by
     numbers_fit e = rw (eq-eqb (length numbers) (count xs) (sym e ∙ n-is))
 
-  -- the numbers stand in arrays
-  module _ (asked : (length tape ≤ max_tape) × (initial ≤ size) × (declarations xs < 1024)) {n : ℕ} {held : Numbers}
+  -- the numbers stand in an array
+  module _ (asked : (length tape ≤ max_tape) × (initial ≤ size) × (declarations xs < 1024)) {n : ℕ} {held : List (Option ℤ)}
       (spread : (n ≡ count xs) × (held ≡ numbers_by (values_of xs numbers))) where
     by_arrays : write_of tape nodes held initial checker size ≡ all_tried
     unfolding tried_all
@@ -105,7 +97,7 @@ module _ (tape nodes : List ℕ) (initial : ℕ) (numbers : List ℤ) (from : �
         let short : length (values_of xs numbers) < 1024 = omega (arith, asked.2, values_length xs numbers) in
         write_allowed tape nodes _ initial checker asked.0 asked.1 refl
         ∙ ap (λ (f : ℕ → Option ℤ). tries (reads_noted tape nodes) checker f (start (origin initial)) xs)
-        (ap (λ (h : Numbers). numbers_in h.known h.number) spread.1 ∙ by_node_lem (values_of xs numbers) short)
+        (ap numbers_in spread.1 ∙ by_node_lem (values_of xs numbers) short)
 
     pub numbers_judged : n ≡ length numbers → verdict_of tape nodes held initial from bytes ≡ verdict
     unfolding verdict_of
@@ -146,26 +138,22 @@ module _ (tape : List ℕ) (o : Origin) (numbers : List ℤ) (from : ℕ) (bytes
 module _ (tape : List ℕ) (initial : ℕ) (numbers : List ℤ) (from : ℕ) (bytes : List ℕ)
     (in_range_lem : is_allowed (length tape) initial from (length bytes) ≡ true) (nodes : List ℕ) (long : length nodes ≡ max_tape) where
   -- the names refuse
-  pub names_stop : {table : SymbolTable} {answer : OutcomeAt} {m at : ℕ} → answer ≡ outcome.Refused m at
-      → (table, says_at answer) ≡ left (declare_of tape (length nodes)) → {v : AnswerAt (Unit {0})} → v ≡ Fault m at
-      → v ≡ check_of tape initial numbers from bytes
+  pub names_stop : {m at : ℕ} → Fault m at ≡ declare_of tape (length nodes) → Fault m at ≡ check_of tape initial numbers from bytes
   unfolding check_of
-  names_stop is told v_is =
-      let refuses = names_refused is (declare_of tape (length nodes)) told in
-      v_is ∙ checked_fault tape (origin initial) numbers from bytes (sym (declare_is tape long) ∙ refuses) ∙ at_true _ _ in_range_lem
+  names_stop told =
+      checked_fault tape (origin initial) numbers from bytes (sym (told ∙ declare_is tape long)) ∙ at_true _ _ in_range_lem
 
-  -- or are declared: then they are few
-  module _ {table : SymbolTable} {answer : OutcomeAt} (is : answer ≡ outcome.Done)
-      (told : (table, says_at answer) ≡ left (declare_of tape (length nodes))) where
-    named : (t : SymbolTable) × (names_of tape ≡ Fine t)
-    named = let found = names_done is (declare_of tape (length nodes)) told in (found.0, sym (declare_is tape long) ∙ found.1)
+  -- or are declared, in the table t: then they are few
+  module _ {t : SymbolTable} (told : Fine t ≡ declare_of tape (length nodes)) where
+    named : names_of tape ≡ Fine t
+    named = sym (told ∙ declare_is tape long)
 
     pub names_few : (length tape ≤ max_tape) × (initial ≤ size) × (declarations (statements tape) < max_nodes)
-    names_few = let fine = allowed _ _ _ _ in_range_lem in (fine.tape, fine.initial, few_names tape named.1)
+    names_few = let fine = allowed _ _ _ _ in_range_lem in (fine.tape, fine.initial, few_names tape named)
 
     pub names_go : {nodes' : List ℕ} → nodes' ≡ notes_after tape nodes (declare_of tape (length nodes))
         → {v : AnswerAt (Unit {0})} → v ≡ checked_by (reads_noted tape nodes') (statements tape) (origin initial) numbers from bytes
         → v ≡ check_of tape initial numbers from bytes
     unfolding check_of
     names_go noted v_is =
-        v_is ∙ checked_noted tape (origin initial) numbers from bytes named.1 nodes long noted ∙ at_true _ _ in_range_lem
+        v_is ∙ checked_noted tape (origin initial) numbers from bytes named nodes long noted ∙ at_true _ _ in_range_lem

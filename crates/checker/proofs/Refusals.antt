@@ -60,7 +60,7 @@ module _ (tape : List ℕ) (o : Origin) (numbers : List ℤ) (start : ℕ) (byte
     checked_by_number {t} fine =
         let L = values_of (statements tape) numbers in
         let all = tries (reads_on tape t) checker (numbered L) (T.start o) (statements tape) in
-        let tried = tries_number Among refl refl refl refl refl checker (λ z. refl) (λ z. refl) (reads_on tape t) (numbered L) tape
+        let tried = tries_number Among refl refl refl refl refl checker refl refl (reads_on tape t) (numbered L) tape
         (computes tape t (numbered L)) (names_sound tape fine).0 o low in
         pick_by (eqb (length numbers) (count (statements tape))) (and_then all (judged start bytes)) number_differs 0
         (then_by Among (judged start bytes) all tried (λ u e. judged_number u)) refl

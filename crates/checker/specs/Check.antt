@@ -1,8 +1,7 @@
 -- The check of numbers, a start and bytes against a tape. Document 01: "After form and names the checker refuses a list of the wrong
 -- length (17 at 0), then tries records the same way, with 17, for a constant's number too, in place of 13, then compares start, length
 -- and bytes (18 at 0)." Assumes nothing: these are definitions.
-use Rattle.std.specs.Prelude.{ℕ, List, eqb, ℤ, length}
-use Rattle.std.proofs.Math.Option.{Option}
+use Rattle.std.specs.Prelude.{ℕ, List, eqb, ℤ, length, Option}
 use Rattle.refusals.specs.Answer.{pick}
 use Rattle.refusals.specs.AnswerAt.{AnswerAt, Fault, and_then}
 use Rattle.refusals.specs.Table.{number_differs}

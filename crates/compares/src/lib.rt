@@ -4,16 +4,13 @@
 ghost use Rattle.std.specs.Prelude.{◌≡◌};
 ghost use Rattle.compares.specs.Compared.{plain, builder, checker};
 
-use refusals::{MOVED, NUMBER_DIFFERS};
+use refusals::Refusal;
 
-// In place of a refusal: what is not compared.
-const NOT: u8 = 0;
-
-// The refusal to give where a label's place, or a constant's value, differs from the list; 0 skips the comparison.
-#[derive(Clone, Copy)]
+// The refusal to give where a label's place, or a constant's value, differs from the list; `None`: not compared.
+#[derive(Clone, Copy, Debug, PartialEq, Eq)]
 pub struct Compares {
-    pub label: u8,
-    pub constant: u8,
+    pub label: Option<Refusal>,
+    pub constant: Option<Refusal>,
 }
 
 // Nothing is compared.
@@ -21,8 +18,8 @@ pub fn plain() -> Compares
     ensures { result ≡ plain }
 {
     Compares {
-        label: NOT,
-        constant: NOT,
+        label: None,
+        constant: None,
     }
 }
 
@@ -31,8 +28,8 @@ pub fn builder() -> Compares
     ensures { result ≡ builder }
 {
     Compares {
-        label: MOVED,
-        constant: NOT,
+        label: Some(Refusal::Moved),
+        constant: None,
     }
 }
 
@@ -41,7 +38,7 @@ pub fn checker() -> Compares
     ensures { result ≡ checker }
 {
     Compares {
-        label: NUMBER_DIFFERS,
-        constant: NUMBER_DIFFERS,
+        label: Some(Refusal::NumberDiffers),
+        constant: Some(Refusal::NumberDiffers),
     }
 }

@@ -10,7 +10,9 @@ mod judge;
 mod tally;
 mod trial;
 
-use descriptors::{STDIN_FILENO, STDOUT_FILENO};
+use cases::Tape;
+use console::Console;
+use std::io;
 use trial::Trial;
 
 // Room for the sound ones, and for one of them.
@@ -18,47 +20,23 @@ const CASES: usize = 65536;
 
 const ROOM: usize = 2048;
 
-// Reads them.
+// Damages something sound.
+fn damage(rt: &impl Print, line: &[u8], sound: &[u8], trial: &mut Trial) -> io::Result<()> {
+    match script::command(line, b"as-expression as-tape") {
+        0 => trial.damage(sound, false),
+        1 => trial.damage(sound, true),
+        _ => return cases::tell(rt, line),
+    }
+    Ok(())
+}
+
 fn main() {
-    let mut cases = [0u8; CASES];
-    let mut room = [0u8; ROOM];
-    let length = io::read_full(STDIN_FILENO, &mut cases);
-    trial::print(run(&cases[..length], &mut room));
-}
-
-// Goes from line to line.
-fn run(cases: &[u8], room: &mut [u8]) -> Trial {
-    let count = script::lines(cases);
-    let mut after = trial::begun();
-    let mut i = 0;
-    while i < count {
-        after = obey(script::line(cases, i), after, room);
-        i += 1;
-    }
-    after
-}
-
-// Makes something sound, or damages it.
-fn obey(line: &[u8], trial: Trial, room: &mut [u8]) -> Trial {
-    if script_tapes::is_tape(line) {
-        return trial.with_length(script_tapes::put_tape(room, trial.length, line));
-    }
-    if script::is_command(line, b"as-expression") {
-        return trial::damage(trial.of_kind(false), room);
-    }
-    if script::is_command(line, b"as-tape") {
-        return trial::damage(trial.of_kind(true), room);
-    }
-    tell(line);
-    trial
-}
-
-// Prints a line that is not known.
-fn tell(line: &[u8]) {
-    if script::is_silent(line) {
-        return;
-    }
-    io::write_all(STDOUT_FILENO, b"not known: ");
-    io::write_all(STDOUT_FILENO, line);
-    io::write_all(STDOUT_FILENO, b"\n");
+    let mut trial = Trial::new();
+    let _ = cases::ask_each(
+        &Console,
+        &mut [0u8; CASES],
+        &mut Tape::<ROOM>::new(),
+        |rt, line, sound| damage(rt, line, sound, &mut trial),
+    );
+    let _ = trial.print(&Console);
 }

@@ -1,91 +1,51 @@
 // Answers, counted.
-use descriptors::STDOUT_FILENO;
+use refusals::Fault;
+use std::io;
 
 // How many numbers a call may answer, with 0 for done.
 const NUMBERS: usize = 19;
 
 // How many answers there were of each number, and how many of all were wrong.
-#[derive(Clone, Copy)]
+#[derive(Drop)]
 pub struct Tally {
     answers: [u64; NUMBERS],
     wrong: u64,
 }
 
-// No answers.
-pub fn new() -> Tally {
-    Tally {
-        answers: [0; NUMBERS],
-        wrong: 0,
-    }
-}
-
-// One more.
-fn more(count: u64) -> u64 {
-    if count < u64::MAX { count + 1 } else { count }
-}
-
 impl Tally {
-    // With one answer more.
-    pub fn with(mut self, number: u8, right: bool) -> Tally {
-        let i = number as usize;
-        if i < NUMBERS {
-            self.answers[i] = more(self.answers[i]);
+    // No answers.
+    pub fn new() -> Self {
+        Tally {
+            answers: [0; NUMBERS],
+            wrong: 0,
         }
-        if !right {
-            self.wrong = more(self.wrong);
+    }
+
+    // Counts one answer more.
+    pub fn count(&mut self, answer: Result<(), Fault>, is_right: bool) {
+        let number = match answer {
+            Ok(()) => 0,
+            Err(fault) => fault.why.number() as usize,
+        };
+        if let Some(count) = self.answers.get_mut(number) {
+            *count = count.saturating_add(1);
         }
-        self
+        self.wrong = self.wrong.saturating_add(u64::from(!is_right));
     }
-}
 
-// Prints a name, and a number behind it on the same line.
-fn print(name: &[u8], number: u64) {
-    io::write_all(STDOUT_FILENO, name);
-    io::print_decimal(STDOUT_FILENO, number);
-}
-
-// Prints how many answers there were of a number, if there were any.
-fn print_count(number: u64, count: u64) {
-    if count == 0 {
-        return;
+    // Prints the counts of a call: of all its answers, and of each refusal that there was.
+    pub fn print(&self, rt: &impl Print, name: &str) -> io::Result<()> {
+        let done = self.answers[0];
+        let asked = self
+            .answers
+            .iter()
+            .fold(0u64, |sum, count| sum.saturating_add(*count));
+        println!(rt; "{name}: asked {asked}, done {done}, wrong {}", self.wrong)?;
+        for (number, count) in self.answers.iter().enumerate().skip(1) {
+            if *count != 0 {
+                println!(rt; "  refused {number}: {count}")?;
+            }
+        }
+        Ok(())
     }
-    print(b"  refused ", number);
-    print(b": ", count);
-    io::write_all(STDOUT_FILENO, b"\n");
-}
-
-// Prints how many answers there were of each refusal.
-fn print_refusals(answers: &[u64]) {
-    let mut i = 1;
-    while i < answers.len() {
-        print_count(i as u64, answers[i]);
-        i += 1;
-    }
-}
-
-// The sum of all counts.
-fn sum(counts: &[u64]) -> u64 {
-    let mut so_far = 0;
-    let mut i = 0;
-    while i < counts.len() {
-        so_far = plus(so_far, counts[i]);
-        i += 1;
-    }
-    so_far
-}
-
-// The sum of two counts, or as much as fits.
-fn plus(a: u64, b: u64) -> u64 {
-    if u64::MAX - a < b { u64::MAX } else { a + b }
-}
-
-// Prints the counts of a call.
-pub fn print_tally(name: &[u8], tally: Tally) {
-    let answers = tally.answers;
-    io::write_all(STDOUT_FILENO, name);
-    print(b": asked ", sum(&answers));
-    print(b", done ", answers[0]);
-    print(b", wrong ", tally.wrong);
-    io::write_all(STDOUT_FILENO, b"\n");
-    print_refusals(&answers);
 }

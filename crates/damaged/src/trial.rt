@@ -1,8 +1,9 @@
 // Sound expressions and tapes, whole, cut at every offset, and with each byte changed; each goes to all three calls.
 use crate::judge::Damage;
 use crate::tally::Tally;
-use crate::{dice, judge, tally};
-use symbols::{Data, SymbolTable};
+use crate::{ROOM, dice, judge};
+use std::io;
+use symbols::SymbolTable;
 use tape::FLAGS;
 
 // Where the generator begins.
@@ -13,10 +14,9 @@ const SCOPE: u16 = 1;
 
 const PLACE: i64 = -3;
 
-// How long what is damaged is, and whether it is a tape; the generator's number; what names mean; and the answers of each call so far.
-#[derive(Clone, Copy)]
+// Whether what is damaged is a tape; the generator's number; what names mean; and the answers of each call so far.
+#[derive(Drop)]
 pub struct Trial {
-    pub length: usize,
     is_tape: bool,
     seed: u64,
     table: SymbolTable,
@@ -25,145 +25,90 @@ pub struct Trial {
     value: Tally,
 }
 
-impl Trial {
-    // Of another length.
-    pub fn with_length(mut self, length: usize) -> Trial {
-        self.length = length;
-        self
-    }
-
-    // Of a tape, or of an expression.
-    pub fn of_kind(mut self, is_tape: bool) -> Trial {
-        self.is_tape = is_tape;
-        self
-    }
-}
-
-// Before all answers.
-pub fn begun() -> Trial {
-    Trial {
-        length: 0,
-        is_tape: false,
-        seed: SEED,
-        table: names(),
-        form: tally::new(),
-        expression: tally::new(),
-        value: tally::new(),
-    }
-}
-
 // A table with three names: 1 with a number, below it 2 with one and 3 without.
 fn names() -> SymbolTable {
-    let one = SymbolTable::new().insert(0, 1, Data::Number(258));
-    let two = one.table.insert(1, 2, Data::Number(-1));
-    let three = two.table.insert(1, 3, Data::Unresolved);
-    three.table
-}
-
-// Asks all three calls about some bytes.
-fn asked(trial: Trial, bytes: &[u8], damage: Damage) -> Trial {
-    let len = bytes.len();
-    let table = trial.table;
-    let form = judge::of_form(form::form(bytes));
-    let alone = judge::of_form(form::expression_form(bytes));
-    let value = judge::of_value(evaluator::evaluate(bytes, table, SCOPE, PLACE));
-    let own = if trial.is_tape { form } else { alone };
-    let may_own = judge::may_after(damage, own);
-    let may_form = judge::may_form(form, len) && (may_own || !trial.is_tape);
-    let may_alone = judge::may_expression(alone, len) && (may_own || trial.is_tape);
-    let forms = trial.form;
-    let expressions = trial.expression;
-    let values = trial.value;
-    Trial {
-        length: trial.length,
-        is_tape: trial.is_tape,
-        seed: dice::next(trial.seed),
-        table,
-        form: forms.with(form.number, may_form),
-        expression: expressions.with(alone.number, may_alone),
-        value: values.with(value.number, judge::may_value(alone, value)),
+    let mut table = SymbolTable::new();
+    for (parent, id, value) in [(0, 1, Some(258)), (1, 2, Some(-1)), (1, 3, None)] {
+        if let Ok(inserted) = table.insert(parent, id, value) {
+            table = inserted.table;
+        }
     }
+    table
 }
 
-// Asks about the first so many bytes, for every count.
-fn cut(trial: Trial, bytes: &[u8]) -> Trial {
-    let mut after = trial;
-    let mut count = 0;
-    while count < bytes.len() {
-        after = asked(after, page::cut(bytes, count), Damage::Cut);
-        count += 1;
+impl Trial {
+    // Before all answers.
+    pub fn new() -> Self {
+        Trial {
+            is_tape: false,
+            seed: SEED,
+            table: names(),
+            form: Tally::new(),
+            expression: Tally::new(),
+            value: Tally::new(),
+        }
     }
-    after
-}
 
-// Asks with another byte at an offset, and puts the old one back.
-fn change(trial: Trial, bytes: &mut [u8], at: usize, byte: u8) -> Trial {
-    let old = little::u8_at(bytes, at);
-    page::put_all(bytes, at, &[byte]);
-    let after = asked(trial, bytes, Damage::Changed(at));
-    page::put_all(bytes, at, &[old]);
-    after
-}
-
-// One more, or 0 behind 255.
-fn above(byte: u8) -> u8 {
-    if byte < 255 { byte + 1 } else { 0 }
-}
-
-// One less, or 255 before 0.
-fn below(byte: u8) -> u8 {
-    if byte > 0 { byte - 1 } else { 255 }
-}
-
-// Asks with the bytes above and below the one at an offset.
-fn change_little(trial: Trial, bytes: &mut [u8], at: usize) -> Trial {
-    let old = little::u8_at(bytes, at);
-    let one = change(trial, bytes, at, above(old));
-    change(one, bytes, at, below(old))
-}
-
-// Asks with flags, with any kind and with any byte at an offset.
-fn change_kind(trial: Trial, bytes: &mut [u8], at: usize) -> Trial {
-    let one = change(trial, bytes, at, FLAGS);
-    let two = change(one, bytes, at, dice::kind(one.seed));
-    change(two, bytes, at, dice::dice(two.seed))
-}
-
-// Asks with five other bytes at every offset.
-fn change_all(trial: Trial, bytes: &mut [u8]) -> Trial {
-    let len = bytes.len();
-    let mut after = trial;
-    let mut at = 0;
-    while at < len {
-        after = change_little(after, bytes, at);
-        after = change_kind(after, bytes, at);
-        at += 1;
+    // Asks all three calls about some bytes.
+    fn ask(&mut self, bytes: &[u8], damage: Damage) {
+        let len = bytes.len();
+        let form = form::form(bytes);
+        let alone = form::expression_form(bytes);
+        let value = evaluator::evaluate(bytes, self.table, SCOPE, PLACE).map(|_| ());
+        let may_own = judge::may_after(damage, if self.is_tape { form } else { alone });
+        let may_form = judge::may_form(form, len) && (may_own || !self.is_tape);
+        let may_alone = judge::may_expression(alone, len) && (may_own || self.is_tape);
+        self.seed = dice::next(self.seed);
+        self.form.count(form, may_form);
+        self.expression.count(alone, may_alone);
+        self.value.count(value, judge::may_value(alone, value));
     }
-    after
-}
 
-// Asks about something sound, and about it damaged.
-fn damage_all(trial: Trial, bytes: &mut [u8]) -> Trial {
-    let whole = asked(trial, bytes, Damage::Nothing);
-    let cut = cut(whole, bytes);
-    change_all(cut, bytes)
-}
-
-// The same of as many bytes as it has.
-pub fn damage(trial: Trial, room: &mut [u8]) -> Trial {
-    let count = trial.length;
-    if room.len() < count {
-        return trial;
+    // Asks about the first so many bytes, for every count.
+    fn cut(&mut self, bytes: &[u8]) {
+        for count in 0..bytes.len() {
+            self.ask(&bytes[..count], Damage::Cut);
+        }
     }
-    damage_all(trial, &mut room[0..count])
-}
 
-// Prints the counts.
-pub fn print(trial: Trial) {
-    let forms = trial.form;
-    let expressions = trial.expression;
-    let values = trial.value;
-    tally::print_tally(b"form", forms);
-    tally::print_tally(b"expression_form", expressions);
-    tally::print_tally(b"evaluate", values);
+    // Asks with another byte at an offset, and puts the old one back.
+    fn change(&mut self, bytes: &mut [u8], at: usize, byte: u8) {
+        let Some(old) = bytes.get(at).copied() else {
+            return;
+        };
+        bytes[at] = byte;
+        self.ask(bytes, Damage::Changed(at));
+        bytes[at] = old;
+    }
+
+    // Asks with other bytes at an offset: the one above and the one below, flags, any kind and any byte.
+    fn change_each(&mut self, bytes: &mut [u8], at: usize) {
+        let old = little::u8_at(bytes, at);
+        self.change(bytes, at, old.wrapping_add(1));
+        self.change(bytes, at, old.wrapping_sub(1));
+        self.change(bytes, at, FLAGS);
+        self.change(bytes, at, dice::kind(self.seed));
+        self.change(bytes, at, dice::dice(self.seed));
+    }
+
+    // Asks about something sound, and about it damaged.
+    pub fn damage(&mut self, sound: &[u8], is_tape: bool) {
+        self.is_tape = is_tape;
+        let mut room = [0u8; ROOM];
+        let len = sound.len().min(ROOM);
+        let bytes = &mut room[..len];
+        bytes.copy_from_slice(&sound[..len]);
+        self.ask(bytes, Damage::Nothing);
+        self.cut(bytes);
+        for at in 0..len {
+            self.change_each(bytes, at);
+        }
+    }
+
+    // Prints the counts.
+    pub fn print(&self, rt: &impl Print) -> io::Result<()> {
+        self.form.print(rt, "form")?;
+        self.expression.print(rt, "expression_form")?;
+        self.value.print(rt, "evaluate")
+    }
 }

@@ -1,9 +1,9 @@
 -- A try whose number is compared with the list's passes where the plain try does and the number is right; and which number of the list
 -- a statement has. Assumes nothing.
+use Rattle.std.specs.Prelude.{Option, None, Some}
 use mathlib.Core.Bool.{Bool, true, false}
 use mathlib.Core.List.{List, [], ◌∷◌, ◌++◌}
 use mathlib.Core.Logic.{◌↔◌}
-use mathlib.Core.Option.{Option, none, some}
 use mathlib.Core.Path.{◌≡◌, refl, sym, ap, ◌∙◌}
 use Prim.Native.Nat.{ℕ, zero, suc, ◌+◌}
 use lib.IntN.{ℤ, pos}
@@ -38,18 +38,18 @@ not_numbered n place x v e =
 -- own: what the statement's name has
 module _ (own : Option ℤ) (n : ℤ) (at : ℕ) (bs : List ℕ) where
   -- a number that is compared passes where it is the list's
-  compared_right : own ≡ some n → (z : ℤ) → (compared number_differs own z at ≡ Fine bs) ↔ ((Fine [] ≡ Fine bs) × (n ≡ z))
-  compared_right is z = (λ e. to (eq_value own (some z)) refl e, λ p. from p.1 ∙ p.0)
+  compared_right : own ≡ Some n → (z : ℤ) → (compared checker.label own z at ≡ Fine bs) ↔ ((Fine [] ≡ Fine bs) × (n ≡ z))
+  compared_right is z = (λ e. to (eq_value own (Some z)) refl e, λ p. from p.1 ∙ p.0)
     where
-      to : (t : Bool) → eq_value own (some z) ≡ t → pick t (Fine []) (Fault number_differs at) ≡ Fine bs → (Fine [] ≡ Fine bs) × (n ≡ z)
-      to true h e = let same : own ≡ some z = eq_value_true own (some z) h in (e, cc)
+      to : (t : Bool) → eq_value own (Some z) ≡ t → pick t (Fine []) (Fault number_differs at) ≡ Fine bs → (Fine [] ≡ Fine bs) × (n ≡ z)
+      to true h e = let same : own ≡ Some z = eq_value_true own (Some z) h in (e, cc)
       to false h e = never (cc)
 
-      from : n ≡ z → compared number_differs own z at ≡ Fine []
-      from e = rw (is, e, eq_value_same (some z))
+      from : n ≡ z → compared checker.label own z at ≡ Fine []
+      from e = rw (is, e, eq_value_same (Some z))
 
   -- the checker's try passes where the plain one does and the number is right
-  pub try_right : (place : ℤ) (x : What) (v : Value) → (counts x ≡ 1 → own ≡ some n)
+  pub try_right : (place : ℤ) (x : What) (v : Value) → (counts x ≡ 1 → own ≡ Some n)
       → (try_of checker own place at x v ≡ Fine bs) ↔ ((try_of plain own place at x v ≡ Fine bs) × Numbered n place x v)
   try_right place (Label id) v is =
       let (to, from) = compared_right (is refl) place in (
@@ -75,11 +75,11 @@ module _ (own : Option ℤ) (n : ℤ) (at : ℕ) (bs : List ℕ) where
 
 -- those before it have as many names as they declare, and as many numbers as they count
 pub own_value : (xs : List Statement) (N : List ℤ) (i : ℕ) → counts (statement_at xs i).says ≡ 1
-    → get_or (values_of xs N) (declarations (take i xs)) none ≡ some (get_or N (count (take i xs)) (pos 0))
+    → get_or (values_of xs N) (declarations (take i xs)) None ≡ Some (get_or N (count (take i xs)) (pos 0))
 own_value [] N i e = never (cc)
 own_value (x ∷ xs) N zero e = go x.says e
   where
-    go : (w : What) → counts w ≡ 1 → get_or (valued w N ++ values_of xs (drop (counts w) N)) 0 none ≡ some (get_or N 0 (pos 0))
+    go : (w : What) → counts w ≡ 1 → get_or (valued w N ++ values_of xs (drop (counts w) N)) 0 None ≡ Some (get_or N 0 (pos 0))
     go (Label id) e = refl
     go (Constant id) e = refl
     go (Open id) e = never (cc)
@@ -91,7 +91,7 @@ own_value (x ∷ xs) N zero e = go x.says e
     go (Screen petscii) e = never (cc)
 own_value (x ∷ xs) N (suc i) e =
     let rest = values_of xs (drop (counts x.says) N) in
-    ap (λ (k : ℕ). get_or (valued x.says N ++ rest) (k + declarations (take i xs)) none) (sym (valued_length x.says N))
-    ∙ get_or-append-add (valued x.says N) rest (declarations (take i xs)) none
+    ap (λ (k : ℕ). get_or (valued x.says N ++ rest) (k + declarations (take i xs)) None) (sym (valued_length x.says N))
+    ∙ get_or-append-add (valued x.says N) rest (declarations (take i xs)) None
     ∙ own_value xs (drop (counts x.says) N) i e
-    ∙ ap some (get_or-drop (counts x.says) N (count (take i xs)) (pos 0))
+    ∙ ap Some (get_or-drop (counts x.says) N (count (take i xs)) (pos 0))

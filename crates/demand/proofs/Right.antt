@@ -1,8 +1,8 @@
 -- The checker's tries are fine exactly where every record is right, and leave a page that holds what the records write.
 -- Assumes nothing.
+use Rattle.std.specs.Prelude.{Option, None, Some}
 use mathlib.Core.List.{List, [], ◌∷◌}
 use mathlib.Core.Logic.{◌↔◌}
-use mathlib.Core.Option.{Option, none, some}
 use mathlib.Core.Path.{◌≡◌, refl, sym, ap, subst, ◌∙◌}
 use Prim.Native.Nat.{ℕ, zero, suc, ◌+◌, ◌≤◌, ◌<◌}
 use native.Mathlib.Decide.{dec_lt}
@@ -64,10 +64,10 @@ module _ (reads : (ℕ → Option ℤ) → ℤ → ℕ → Value) (xs : List Sta
     own = own_at reads xs o N i
 
     -- its number in the list is what its name has
-    own_number : counts (x i).says ≡ 1 → ns (suc (w i).names) ≡ some own
+    own_number : counts (x i).says ≡ 1 → ns (suc (w i).names) ≡ Some own
     own_number e =
         let names : (w i).names ≡ declarations (take i xs) = omega (arith, behind_names reads ns (begin o) (take i xs)) in
-        ap (λ (k : ℕ). get_or (values_of xs N) k none) names ∙ own_value xs N i e
+        ap (λ (k : ℕ). get_or (values_of xs N) k None) names ∙ own_value xs N i e
 
     -- its try, with its number compared and without
     try_at_lem : (bs : List ℕ) → (try_at reads checker ns (w i) (x i) ≡ Fine bs)

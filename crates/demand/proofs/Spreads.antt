@@ -1,7 +1,7 @@
 -- The number list has one number for each label and constant. Spread over the names again, it is what the pass gave, where no statement
 -- is refused. Assumes nothing.
+use Rattle.std.specs.Prelude.{Option, None, Some}
 use mathlib.Core.List.{List, [], ◌∷◌, ◌++◌, map}
-use mathlib.Core.Option.{Option, none, some}
 use mathlib.Core.Path.{◌≡◌, refl, sym, ap, ◌∙◌, subst}
 use Prim.Native.Nat.{ℕ, suc}
 use native.Mathlib.Omega.{arith}
@@ -57,11 +57,11 @@ spread_on x xs l =
 module _ (c : Compares) (own : Option ℤ) (w : Walk) (at : ℕ) (xs : List Statement) {L : Values} (rest : respread xs L ≡ L) where
   spread_one : (x : What) (v : Value) {bs : List ℕ} → try_of c own (here w) at x v ≡ Fine bs
       → spread_on x xs (map number_or0 (gives w x (number_of v) ++ L)) ≡ gives w x (number_of v) ++ L
-  spread_one (Label id) v e = ap (λ (l : Values). some (here w) ∷ l) rest
-  spread_one (Constant id) (Number z) e = ap (λ (l : Values). some z ∷ l) rest
+  spread_one (Label id) v e = ap (λ (l : Values). Some (here w) ∷ l) rest
+  spread_one (Constant id) (Number z) e = ap (λ (l : Values). Some z ∷ l) rest
   spread_one (Constant id) (Unresolved i) e = never (cc)
   spread_one (Constant id) (Refuses n i) e = never (cc)
-  spread_one (Open id) v e = ap (λ (l : Values). none ∷ l) rest
+  spread_one (Open id) v e = ap (λ (l : Values). None ∷ l) rest
   spread_one Close v e = rest
   spread_one (Instruction mnemonic mode suffix) v e = rest
   spread_one SetPlace v e = rest

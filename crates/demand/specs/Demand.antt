@@ -3,8 +3,7 @@
 -- records leave in memory that was zero, where a later one goes over those before it, from the first byte written to the last.
 -- Nothing here walks a tape and compares: a place is given by what stands before it, a byte by the last record that writes there.
 -- Assumes nothing: these are definitions.
-use Rattle.std.specs.Prelude.{ℕ, ◌+◌, ◌-◌, ◌≤◌, ◌<◌, List, [], ◌∷◌, ◌≡◌, ℤ, pos, length, get_or, take}
-use Rattle.std.proofs.Math.Option.{Option}
+use Rattle.std.specs.Prelude.{ℕ, ◌+◌, ◌-◌, ◌≤◌, ◌<◌, List, [], ◌∷◌, ◌≡◌, ℤ, pos, length, get_or, take, Option}
 use Rattle.refusals.specs.AnswerAt.{Fine, part}
 use Rattle.pen.specs.Pens.{size}
 use Rattle.symbols.specs.declared.SymbolTable.{SymbolTable}

@@ -1,19 +1,18 @@
 -- Laws of the look-ups: scans from the last edge to the first, and paths id by id. Assumes nothing.
-use mathlib.Core.Bool.{true, false}
+use Rattle.std.specs.Prelude.{Option, None, Some}
+use mathlib.Core.Bool.{Bool, true, false, ◌||◌}
 use mathlib.Core.Path.{◌≡◌, refl, sym, ap, ◌∙◌}
 use mathlib.Core.List.{List, [], ◌∷◌}
-use mathlib.Core.Option.{Option, none, some}
 use Prim.Native.Nat.{ℕ, suc, ◌+◌, ◌-◌, ◌<◌, ◌≤◌, min}
 use native.Mathlib.Omega.{arith}
 use native.Mathlib.Numerals.{add-one}
+use lib.Dec.{eqb}
 use lib.ListN.{length, get_or, set, drop, length-drop}
 use lib.Seq.{drop-cons, drop-length, sets-eq}
 use borrow.Author.Tests.{eq-eqb, ne_eqb}
+use Rattle.std.specs.List.{list_any}
 use Rattle.refusals.specs.Memory.{over}
 use Rattle.edges.specs.declared.Edge.{Edge}
-use Rattle.edges.specs.declared.Reached.{Reached}
-use Rattle.edges.specs.declared.Reached.TheVariants as reached
-use Rattle.edges.specs.Says.{says_reached}
 use Rattle.edges.specs.Edges.{max_edges, last_edge, child_of, parent_of, step_of, walk_of, has, deepest, there_of, elsewhere, taken, found, edge_at, edges_in, held}
 
 -- ---- how many there are
@@ -33,7 +32,7 @@ module _ (links : List ℕ) (i : ℕ) (h : 0 < i) {e : Edge} (is : e ≡ edge_at
   unfolding edges_in
   edges_down = let j : i ≡ suc (i - 1) = omega arith in ap (edges_in links) j ∙ ap (λ (d : Edge). d ∷ edges_in links (i - 1)) (sym is)
 
-  pub child_here : {s x : ℕ} → e.from ≡ s → e.id ≡ x → child_of (edges_in links i) s x ≡ some e.to
+  pub child_here : {s x : ℕ} → e.from ≡ s → e.id ≡ x → child_of (edges_in links i) s x ≡ Some e.to
   unfolding child_of
   child_here p q = rw edges_down (rw (eq-eqb _ _ p, eq-eqb _ _ q))
 
@@ -46,7 +45,7 @@ module _ (links : List ℕ) (i : ℕ) (h : 0 < i) {e : Edge} (is : e ≡ edge_at
   unfolding child_of
   child_unnamed p q = rw edges_down (rw (eq-eqb _ _ p, ne_eqb _ _ q))
 
-  pub parent_here : {s : ℕ} → e.to ≡ s → parent_of (edges_in links i) s ≡ some e.from
+  pub parent_here : {s : ℕ} → e.to ≡ s → parent_of (edges_in links i) s ≡ Some e.from
   unfolding parent_of
   parent_here p = rw edges_down (rw (eq-eqb _ _ p))
 
@@ -63,61 +62,44 @@ module _ (links : List ℕ) (i : ℕ) (h : 0 < i) {e : Edge} (is : e ≡ edge_at
     unfolding taken
     taken_other t = rw edges_down (rw t)
 
--- ---- one id of a path
-
-module _ (es : List Edge) (s x : ℕ) where
-  pub step_super : x ≡ 0 → parent_of es s ≡ step_of es s x
-  unfolding step_of
-  step_super e = rw (eq-eqb _ _ e)
-
-  pub step_name : (x ≡ 0 → ⊥) → child_of es s x ≡ step_of es s x
-  unfolding step_of
-  step_name e = rw (ne_eqb _ _ e)
-
 -- ---- one turn of a loop over a path: the id at i
 
 module _ (path : List ℕ) (i : ℕ) (h : i < length path) where
   module _ (es : List Edge) (s : ℕ) where
-    pub walk_on : {n : ℕ} → step_of es s (get_or path i 0) ≡ some n → walk_of es (drop i path) s ≡ walk_of es (drop (i + 1) path) n
+    pub walk_on : {n : ℕ} → step_of es s (get_or path i 0) ≡ Some n → walk_of es (drop i path) s ≡ walk_of es (drop (i + 1) path) n
     unfolding walk_of
     walk_on e = rw (add-one, drop-cons path i 0 h, e)
 
-    pub walk_stuck : step_of es s (get_or path i 0) ≡ none → walk_of es (drop i path) s ≡ none
+    pub walk_stuck : step_of es s (get_or path i 0) ≡ None → walk_of es (drop i path) s ≡ None
     unfolding walk_of
     walk_stuck e = rw (drop-cons path i 0 h, e)
 
-    pub deeper : {n : ℕ} → child_of es s (get_or path i 0) ≡ some n → deepest es s (drop i path) ≡ deepest es n (drop (i + 1) path)
+    pub deeper : {n : ℕ} → child_of es s (get_or path i 0) ≡ Some n → deepest es s (drop i path) ≡ deepest es n (drop (i + 1) path)
     unfolding deepest
     deeper e = rw (add-one, drop-cons path i 0 h, e)
 
-    pub no_deeper : child_of es s (get_or path i 0) ≡ none → (s, drop i path) ≡ deepest es s (drop i path)
+    pub no_deeper : child_of es s (get_or path i 0) ≡ None → (s, drop i path) ≡ deepest es s (drop i path)
     unfolding deepest
     no_deeper e = rw (drop-cons path i 0 h, e)
-
-  pub has_here : get_or path i 0 ≡ 0 → has 0 (drop i path) ≡ true
-  unfolding has
-  has_here e = rw (drop-cons path i 0 h, eq-eqb _ _ e)
-
-  pub has_later : (get_or path i 0 ≡ 0 → ⊥) → has 0 (drop i path) ≡ has 0 (drop (i + 1) path)
-  unfolding has
-  has_later e = rw (add-one, drop-cons path i 0 h, ne_eqb _ _ e)
 
 -- the end of a path
 module _ (path : List ℕ) (i : ℕ) (h : i ≤ length path) (g : length path ≤ i) where
   pub at_end : drop i path ≡ []
   at_end = let e : i ≡ length path = omega arith in rw (e, drop-length)
 
-  pub walk_end : (es : List Edge) (s : ℕ) → walk_of es (drop i path) s ≡ some s
+  pub walk_end : (es : List Edge) (s : ℕ) → walk_of es (drop i path) s ≡ Some s
   unfolding walk_of
   walk_end es s = rw at_end
 
-  pub deepest_end : (es : List Edge) (s : ℕ) → (s, drop i path) ≡ deepest es s (drop i path)
+  pub deepest_end : (es : List Edge) (s : ℕ) → (s, drop (length path) path) ≡ deepest es s (drop i path)
   unfolding deepest
-  deepest_end es s = rw at_end
+  deepest_end es s = rw (at_end, drop-length)
 
-  pub has_end : has 0 (drop i path) ≡ false
-  unfolding has
-  has_end = rw at_end
+-- whether a number stands in a list, as the library asks it
+pub has_any : (x : ℕ) (xs : List ℕ) → list_any (λ y. eqb y x) xs ≡ has x xs
+unfolding has
+has_any x [] = refl
+has_any x (y ∷ ys) = ap (λ (b : Bool). eqb y x || b) (has_any x ys)
 
 -- ---- how much is there of a path
 
@@ -129,8 +111,8 @@ missing_few es s (x ∷ path) = go (λ n. missing_few es n path) (child_of es s 
   where
     go : ((n : ℕ) → length (deepest es n path).1 ≤ length path) → (f : Option ℕ)
         → length (found f (s, x ∷ path) (λ n. deepest es n path)).1 ≤ suc (length path)
-    go ih none = omega arith
-    go ih (some n) = omega (arith, ih n)
+    go ih None = omega arith
+    go ih (Some n) = omega (arith, ih n)
 
 module _ (es : List Edge) (s : ℕ) (path : List ℕ) where
   pub there_few : (there_of es s path).depth ≤ length path
@@ -160,8 +142,8 @@ there_rest es s (x ∷ path) = go (λ n. there_rest es n path) (λ n. missing_fe
         → ((n : ℕ) → length (deepest es n path).1 ≤ length path) → (f : Option ℕ)
         → drop (suc (length path) - length (found f (s, x ∷ path) (λ n. deepest es n path)).1) (x ∷ path)
         ≡ (found f (s, x ∷ path) (λ n. deepest es n path)).1
-    go ih few none = let all : suc (length path) - suc (length path) ≡ 0 = omega arith in ap (λ (k : ℕ). drop k (x ∷ path)) all
-    go ih few (some n) =
+    go ih few None = let all : suc (length path) - suc (length path) ≡ 0 = omega arith in ap (λ (k : ℕ). drop k (x ∷ path)) all
+    go ih few (Some n) =
         let one : suc (length path) - length (deepest es n path).1 ≡ suc (length path - length (deepest es n path).1) =
         omega (arith, few n) in
         ap (λ (k : ℕ). drop k (x ∷ path)) one ∙ ih n
@@ -178,9 +160,9 @@ three_stores m at room a b d =
 
 -- ---- where a look-up ends
 
-module _ {r : Reached} {f : Option ℕ} (says : says_reached r ≡ f) where
-  pub reached_node : {n : ℕ} → r ≡ reached.At n → f ≡ some n
-  reached_node e = sym says ∙ ap says_reached e
+module _ {r : Option ℕ} {f : Option ℕ} (says : r ≡ f) where
+  pub reached_node : {n : ℕ} → r ≡ Some n → f ≡ Some n
+  reached_node e = sym says ∙ e
 
-  pub reached_none : r ≡ reached.Nothing → f ≡ none
-  reached_none e = sym says ∙ ap says_reached e
+  pub reached_none : r ≡ None → f ≡ None
+  reached_none e = sym says ∙ e

@@ -1,7 +1,6 @@
 -- Document 01's "Symbols" as a plain list of edges, the last added first: what a name means in it, and which words of a table
 -- hold it. Assumes nothing: these are definitions.
-use Rattle.std.specs.Prelude.{Bool, false, not, ◌&&◌, ◌||◌, ℕ, zero, suc, ◌+◌, ◌-◌, ◌*◌, min, List, [], ◌∷◌, eqb, leb, length, get_or}
-use Rattle.std.proofs.Math.Option.{Option, none, some}
+use Rattle.std.specs.Prelude.{Bool, false, not, ◌&&◌, ◌||◌, ℕ, zero, suc, ◌+◌, ◌-◌, ◌*◌, min, List, [], ◌∷◌, eqb, leb, length, get_or, Option, None, Some}
 use Rattle.refusals.specs.Answer.{pick}
 use Rattle.edges.specs.declared.Edge.{Edge}
 use Rattle.edges.specs.declared.There.{There}
@@ -32,18 +31,18 @@ max_path = 4
 
 -- what to do with a node, where there is one; else the first
 abbrev pub found : {A : Type 0} → Option ℕ → A → (ℕ → A) → A
-found none a f = a
-found (some n) a f = f n
+found None a f = a
+found (Some n) a f = f n
 
 -- "Of edges with one name, which insert allows, the last added answers"
 unfoldable pub child_of : List Edge → ℕ → ℕ → Option ℕ
-child_of [] s x = none
-child_of (e ∷ es) s x = pick (eqb e.from s && eqb e.id x) (some e.to) (child_of es s x)
+child_of [] s x = None
+child_of (e ∷ es) s x = pick (eqb e.from s && eqb e.id x) (Some e.to) (child_of es s x)
 
 -- "parent is the source of the incoming edge last added"
 unfoldable pub parent_of : List Edge → ℕ → Option ℕ
-parent_of [] s = none
-parent_of (e ∷ es) s = pick (eqb e.to s) (some e.from) (parent_of es s)
+parent_of [] s = None
+parent_of (e ∷ es) s = pick (eqb e.to s) (Some e.from) (parent_of es s)
 
 -- ---- paths
 
@@ -53,8 +52,8 @@ step_of es s x = pick (eqb x super) (parent_of es s) (child_of es s x)
 
 -- "follow the whole path"
 unfoldable pub walk_of : List Edge → List ℕ → ℕ → Option ℕ
-walk_of es [] s = some s
-walk_of es (x ∷ xs) s = found (step_of es s x) none (λ n. walk_of es xs n)
+walk_of es [] s = Some s
+walk_of es (x ∷ xs) s = found (step_of es s x) None (λ n. walk_of es xs n)
 
 -- "paths of 0 to 4 ids"
 abbrev pub is_path : List ℕ → Bool
@@ -79,8 +78,8 @@ chain es s = chain_of es max_nodes s
 -- the innermost scope of a chain in which the whole path is found: "if it fails and holds a super, not found; else ask again
 -- from the parent"
 unfoldable pub query_on : List Edge → List ℕ → List ℕ → Option ℕ
-query_on es path [] = none
-query_on es path (s ∷ ss) = found (walk_of es path s) (pick (has super path) none (query_on es path ss)) some
+query_on es path [] = None
+query_on es path (s ∷ ss) = found (walk_of es path s) (pick (has super path) None (query_on es path ss)) Some
 
 -- "Query from a scope"
 unfoldable pub query_of : List Edge → ℕ → List ℕ → Option ℕ

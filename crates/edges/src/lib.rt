@@ -4,7 +4,6 @@
 
 ghost use Rattle.std.specs.Prelude.{◌≡◌, ◌<◌, min};
 ghost use Rattle.edges.specs.Edges.{max_edges, last_edge, child_of, parent_of, step_of, walk_of, has, there_of, elsewhere, taken, edge_at, held};
-ghost use Rattle.edges.specs.Says.{says_reached};
 
 // How many nodes a table holds, with the root; also how many places the list of query_all has.
 pub const NODES: usize = 1024;
@@ -28,22 +27,15 @@ pub const LONGEST: usize = 4;
 pub const SUPER: u16 = 0;
 
 // In node `from` the name `id` means node `to`.
-#[derive(Clone, Copy)]
+#[derive(Clone, Copy, Debug, PartialEq, Eq)]
 pub struct Edge {
     pub from: u16,
     pub id: u16,
     pub to: u16,
 }
 
-// Where a look-up ends.
-#[derive(Clone, Copy)]
-pub enum Reached {
-    At(u16),
-    Nothing,
-}
-
 // The deepest node of a path that is there, and how many ids of the path lead to it.
-#[derive(Clone, Copy)]
+#[derive(Clone, Copy, Debug, PartialEq, Eq)]
 pub struct There {
     pub node: u16,
     pub depth: usize,
@@ -60,13 +52,11 @@ pub fn wide(nx: u16) -> usize
 pub fn edge_at(links: &[u16; WORDS], i: usize) -> Edge
     ensures { result ≡ edge_at links.now (min i last_edge) }
 {
-    if LAST < i {
-        return edge_in(links, LAST);
-    }
-    edge_in(links, i)
+    edge_in(links, i.min(LAST))
 }
 
 // Edge i.
+#[tactic(auto, unfolding(crate::specs::Edges::edge_at))]
 fn edge_in(links: &[u16; WORDS], i: usize) -> Edge
     requires { i < max_edges }
     ensures { result ≡ edge_at links.now i }
@@ -83,44 +73,39 @@ fn edge_in(links: &[u16; WORDS], i: usize) -> Edge
 pub fn at_most(n: usize) -> usize
     ensures { result ≡ min n max_edges }
 {
-    if EDGES < n { EDGES } else { n }
+    n.min(EDGES)
 }
 
 // Where the last added edge from s under the name x leads.
-pub fn child(links: &[u16; WORDS], n: usize, s: u16, x: u16) -> Reached
-    ensures { says_reached result ≡ child_of (held links.now n) s x }
+pub fn child(links: &[u16; WORDS], n: usize, s: u16, x: u16) -> Option<u16>
+    ensures { result ≡ child_of (held links.now n) s x }
 {
-    let mut i = at_most(n);
-    while 0 < i {
-        i -= 1;
+    for i in (0..at_most(n)).rev() {
         let edge = edge_in(links, i);
-        if edge.from == s {
-            if edge.id == x {
-                return Reached::At(edge.to);
-            }
+        if edge.from == s && edge.id == x {
+            return Some(edge.to);
         }
     }
-    Reached::Nothing
+    None
 }
 
 // Where the last added edge to s comes from.
-pub fn parent(links: &[u16; WORDS], n: usize, s: u16) -> Reached
-    ensures { says_reached result ≡ parent_of (held links.now n) s }
+pub fn parent(links: &[u16; WORDS], n: usize, s: u16) -> Option<u16>
+    ensures { result ≡ parent_of (held links.now n) s }
 {
-    let mut i = at_most(n);
-    while 0 < i {
-        i -= 1;
+    for i in (0..at_most(n)).rev() {
         let edge = edge_in(links, i);
         if edge.to == s {
-            return Reached::At(edge.from);
+            return Some(edge.from);
         }
     }
-    Reached::Nothing
+    None
 }
 
 // Where one id of a path leads.
-fn step(links: &[u16; WORDS], n: usize, s: u16, x: u16) -> Reached
-    ensures { says_reached result ≡ step_of (held links.now n) s x }
+#[tactic(auto, unfolding(crate::specs::Edges::step_of))]
+fn step(links: &[u16; WORDS], n: usize, s: u16, x: u16) -> Option<u16>
+    ensures { result ≡ step_of (held links.now n) s x }
 {
     if x == SUPER {
         parent(links, n, s)
@@ -130,33 +115,21 @@ fn step(links: &[u16; WORDS], n: usize, s: u16, x: u16) -> Reached
 }
 
 // Where the whole path leads from s.
-pub fn walk(links: &[u16; WORDS], n: usize, s: u16, path: &[u16]) -> Reached
-    ensures { says_reached result ≡ walk_of (held links.now n) path.now s }
+pub fn walk(links: &[u16; WORDS], n: usize, s: u16, path: &[u16]) -> Option<u16>
+    ensures { result ≡ walk_of (held links.now n) path.now s }
 {
     let mut at = s;
-    let mut i = 0;
-    while i < path.len() {
-        let Reached::At(next) = step(links, n, at, path[i]) else {
-            return Reached::Nothing; // the path breaks off
-        };
-        at = next;
-        i += 1;
+    for x in path {
+        at = step(links, n, at, *x)?; // where the path breaks off, None
     }
-    Reached::At(at)
+    Some(at)
 }
 
 // Whether a super stands in the path.
 pub fn has_super(path: &[u16]) -> bool
     ensures { result ≡ has 0 path.now }
 {
-    let mut i = 0;
-    while i < path.len() {
-        if path[i] == SUPER {
-            return true;
-        }
-        i += 1;
-    }
-    false
+    path.contains(&SUPER)
 }
 
 // How much of the path is there below s.
@@ -164,24 +137,23 @@ pub fn deepest(links: &[u16; WORDS], n: usize, s: u16, path: &[u16]) -> There
     ensures { result ≡ there_of (held links.now n) s path.now }
 {
     let mut node = s;
-    let mut depth = 0;
-    while depth < path.len() {
-        let Reached::At(next) = child(links, n, node, path[depth]) else {
+    for (depth, x) in path.iter().enumerate() {
+        let Some(next) = child(links, n, node, *x) else {
             return There { node, depth };
         };
         node = next;
-        depth += 1;
     }
-    There { node, depth }
+    There {
+        node,
+        depth: path.len(),
+    }
 }
 
 // Whether an edge from s under the name x leads to another node than `to`.
 pub fn is_taken(links: &[u16; WORDS], n: usize, s: u16, x: u16, to: u16) -> bool
     ensures { result ≡ taken (held links.now n) s x to }
 {
-    let mut i = at_most(n);
-    while 0 < i {
-        i -= 1;
+    for i in (0..at_most(n)).rev() {
         if leads_elsewhere(edge_in(links, i), s, x, to) {
             return true;
         }
@@ -190,14 +162,9 @@ pub fn is_taken(links: &[u16; WORDS], n: usize, s: u16, x: u16, to: u16) -> bool
 }
 
 // Whether the edge is one from s under the name x, and leads to another node than `to`.
+#[tactic(auto, unfolding(crate::specs::Edges::elsewhere))]
 fn leads_elsewhere(edge: Edge, s: u16, x: u16, to: u16) -> bool
     ensures { result ≡ elsewhere s x to edge }
 {
-    if edge.from != s {
-        return false;
-    }
-    if edge.id != x {
-        return false;
-    }
-    edge.to != to
+    edge.from == s && edge.id == x && edge.to != to
 }

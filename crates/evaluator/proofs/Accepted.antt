@@ -1,8 +1,8 @@
 -- An expression whose form is accepted ends where its bytes do, and only arithmetic refuses it: the form's stack of depths and the
 -- evaluator's calls go over the same records. Assumes nothing.
+use Rattle.std.specs.Prelude.{Option, None, Some}
 use mathlib.Core.Bool.{Bool, true, false, ◌&&◌, ◌||◌}
 use mathlib.Core.List.{List, [], ◌∷◌, ◌++◌}
-use mathlib.Core.Option.{Option, none, some}
 use mathlib.Core.Path.{◌≡◌, refl, sym, ap, ◌∙◌}
 use Prim.Native.Nat.{ℕ, zero, suc, ◌+◌, ◌≤◌, ◌<◌}
 use native.Mathlib.Decide.{dec_lt}
@@ -51,8 +51,8 @@ module _ (len at : ℕ) (inside : at < len) where
   valued_computed out = (refl, inside)
 
   named_computed : (m : ℕ) (z : Option ℤ) → Computed len (named m at z)
-  named_computed m none = inside
-  named_computed m (some z) = tt
+  named_computed m None = inside
+  named_computed m (Some z) = tt
 
   changed_computed : (f : ℕ) (v : Value) → Computed len v → Computed len (changed at f v)
   changed_computed f (Number a) c = valued_computed (flagged_arithmetic f a)

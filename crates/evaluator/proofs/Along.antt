@@ -1,7 +1,7 @@
 -- An expression is read record by record: what it comes to depends on no other offset. Assumes nothing.
+use Rattle.std.specs.Prelude.{Option, None, Some}
 use mathlib.Core.Bool.{Bool, true, false}
 use mathlib.Core.List.{List}
-use mathlib.Core.Option.{Option, none, some}
 use mathlib.Core.Path.{◌≡◌, refl, sym, ap, ◌∙◌, subst}
 use Prim.Native.Nat.{ℕ, zero, suc, ◌+◌}
 use lib.Dec.{eqb}
@@ -19,15 +19,15 @@ use Rattle.evaluator.specs.Expression.{Value, Refuses, Meaning, named, inner_at,
 -- ---- the record behind one that expressions follow
 
 abbrev end : Option (ℕ × ℕ) → ℕ
-end none = 0
-end (some p) = p.1
+end None = 0
+end (Some p) = p.1
 
 module _ (tape : List ℕ) where
-  inner_next : (at k : ℕ) {b next : ℕ} → inner_at tape at k ≡ some (b, next) → next ≡ onward tape 1 at
+  inner_next : (at k : ℕ) {b next : ℕ} → inner_at tape at k ≡ Some (b, next) → next ≡ onward tape 1 at
   unfolding inner_at onward
   inner_next at k {b} {next} e = go (eqb (get_or (bytes_at tape at) 0 0) k) (get_or (bytes_at tape at) 1 0) (at + length (bytes_at tape at)) e
     where
-      go : (t : Bool) (a i : ℕ) → ◌≡◌ {A = Option (ℕ × ℕ)} (pick t (some (a, i)) none) (some (b, next)) → next ≡ i
+      go : (t : Bool) (a i : ℕ) → ◌≡◌ {A = Option (ℕ × ℕ)} (pick t (Some (a, i)) None) (Some (b, next)) → next ≡ i
       go true a i e = sym (ap end e)
       go false a i e = never (cc)
 
@@ -64,9 +64,9 @@ module _ (tape : List ℕ) where
         go : (b : Option (ℕ × ℕ)) → inner_at tape at binary ≡ b → (f : Option (ℕ × ℕ)) → inner_at tape at flags ≡ f
             → (e : ℕ → Meaning) → ((i : ℕ) → Ends i (e i).0)
             → Ends at (expression_by tape numbers place b e (factor_by tape numbers place f e at) at).0
-        go (some (op, next)) p f q e ends = ends_by at (inner_next at binary p) (ends_then next (ends next) (ends (e next).0))
-        go none p (some (b, next)) q e ends = ends_by at (inner_next at flags q) (ends next)
-        go none p none q e ends = leaf_ends at
+        go (Some (op, next)) p f q e ends = ends_by at (inner_next at binary p) (ends_then next (ends next) (ends (e next).0))
+        go None p (Some (b, next)) q e ends = ends_by at (inner_next at flags q) (ends next)
+        go None p None q e ends = leaf_ends at
 
   -- ---- two ways to number the names agree, if they do at each of its records
 
@@ -101,10 +101,10 @@ module _ (tape : List ℕ) where
             → ((i : ℕ) → Agree i → expression tape f place d i ≡ expression tape g place d i)
             → expression_by tape f place b (expression tape f place d) (factor_by tape f place h (expression tape f place d) at) at
             ≡ expression_by tape g place b (expression tape g place d) (factor_by tape g place h (expression tape g place d) at) at
-        go (some (op, next)) p h q e =
+        go (Some (op, next)) p h q e =
             let here : Agree next = agree_on at a (1, inner_next at binary p) in
             let left = e next here in
             let right = e (expression tape f place d next).0 (agree_on next here (expression_ends f place d next)) in
             rw (right, left)
-        go none p (some (b, next)) q e = rw (e next (agree_on at a (1, inner_next at flags q)))
-        go none p none q e = leaf_agrees at a
+        go None p (Some (b, next)) q e = rw (e next (agree_on at a (1, inner_next at flags q)))
+        go None p None q e = leaf_agrees at a

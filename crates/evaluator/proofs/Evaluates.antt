@@ -1,8 +1,8 @@
 -- An expression alone: noting the nodes first changes nothing, and in a sound table they are those that query finds.
 -- Assumes nothing.
-use mathlib.Core.Bool.{Bool, true, false}
+use Rattle.std.specs.Prelude.{Option, None, Some}
+use mathlib.Core.Bool.{true}
 use mathlib.Core.List.{List}
-use mathlib.Core.Option.{Option, none, some}
 use mathlib.Core.Path.{◌≡◌, refl, sym, ap, ◌∙◌}
 use Prim.Native.Nat.{ℕ, ◌≤◌, ◌<◌}
 use native.Mathlib.Numerals.{add-one}
@@ -10,12 +10,8 @@ use native.Mathlib.Omega.{arith}
 use lib.IntN.{ℤ}
 use lib.ListN.{length}
 use borrow.Author.Tests.{le-leb, lt-ltb}
-use mir.Facts.{to_z-of_z}
-use mir.Syntax.{w64}
-use mir.Val.{SFits}
 use Rattle.refusals.specs.Answer.{Answer, Done}
-use Rattle.refusals.specs.AnswerAt.{AnswerAt, Fine, Fault}
-use Rattle.refusals.specs.Table.{argument, unresolved}
+use Rattle.refusals.specs.AnswerAt.{AnswerAt, Fine}
 use Rattle.symbols.specs.declared.SymbolTable.{SymbolTable}
 use Rattle.edges.specs.Edges.{query_of}
 use Rattle.scopes.specs.Scopes.{query_edges}
@@ -28,51 +24,30 @@ use Rattle.lookup.specs.Lookup.{path_of, node_of}
 use Rattle.lookup.specs.Notes.{onward, noted, notes_of}
 use Rattle.lookup.proofs.Notes.{notes_resolved}
 use Rattle.lookup.proofs.Paths.{length_path}
-use Rattle.evaluator.specs.declared.Value as Val
-use Rattle.evaluator.specs.declared.Value.TheVariants as came
 use Rattle.evaluator.specs.Expression.{Value, Meaning, expression}
-use Rattle.evaluator.specs.Says.{says_value}
 use Rattle.evaluator.specs.Evaluate.{read, by_node, from_nodes, from_scope, expression_at, answered, evaluate_of}
 use Rattle.evaluator.specs.Steps.{value_from}
 use Rattle.evaluator.proofs.Along.{expression_agrees}
-use Rattle.evaluator.proofs.Values.{back}
 
 -- ---- by the nodes that are noted
 
 -- the number of what is noted of the name at an offset
-abbrev found_by : List ℕ → List ℕ → ℕ → ℕ → List Bool → List ℤ → ℕ → Option ℤ
-found_by bytes links edges scope known number at = by_node known number (noted (node_of links edges scope (bytes_at bytes at)))
+abbrev found_by : List ℕ → List ℕ → ℕ → ℕ → List (Option ℤ) → ℕ → Option ℤ
+found_by bytes links edges scope numbers at = by_node numbers (noted (node_of links edges scope (bytes_at bytes at)))
 
-pub value_noted : (bytes links first : List ℕ) (edges scope : ℕ) (known : List Bool) (number : List ℤ) {place : ℤ} → SFits w64 place
+pub value_noted : (bytes links first : List ℕ) (edges scope : ℕ) (numbers : List (Option ℤ)) (place : ℤ)
     → length bytes ≤ length first → {nodes : List ℕ} → nodes ≡ notes_of bytes links edges (λ i. scope) first
-    → {m : Meaning} → m ≡ expression_at bytes nodes known number (back place) 0
-    → m.1 ≡ value_from bytes links edges known number scope place
+    → {m : Meaning} → m ≡ expression_at bytes nodes numbers place 0
+    → m.1 ≡ value_from bytes links edges numbers scope place
 unfolding expression_at value_from from_nodes
-value_noted bytes links first edges scope known number {place} f room {nodes} new pm =
+value_noted bytes links first edges scope numbers place room {nodes} new pm =
     let resolved = notes_resolved bytes links edges (λ i. scope) first room in
     ap (λ (m : Meaning). m.1)
     (pm
-    ∙ ap (λ (z : ℤ). expression_at bytes nodes known number z 0) (to_z-of_z f)
-    ∙ ap (λ (l : List ℕ). expression_at bytes l known number place 0) new
-    ∙ expression_agrees bytes (from_nodes (notes_of bytes links edges (λ i. scope) first) known number)
-    (found_by bytes links edges scope known number) place 64 0
-    (λ k name. ap (by_node known number) (resolved k name)))
-
-pub value_handed : (bytes links : List ℕ) (edges scope : ℕ) (known : List Bool) (number : List ℤ) {place : ℤ} → SFits w64 place
-    → {v : Value}
-    → v ≡ value_from bytes links edges known number scope (back place) → v ≡ value_from bytes links edges known number scope place
-value_handed bytes links edges scope known number f pv = pv ∙ ap (value_from bytes links edges known number scope) (to_z-of_z f)
-
--- ---- what is answered
-
-pub answer_number : {z : ℤ} {v : Val.Value} → SFits w64 z → v ≡ came.Number z → Fine (back z) ≡ answered (says_value v)
-answer_number f e = ap Fine (to_z-of_z f) ∙ sym (ap (λ (x : Val.Value). answered (says_value x)) e)
-
-pub answer_unresolved : (at : ℕ) {v : Val.Value} → v ≡ came.Unresolved at → Fault unresolved 0 ≡ answered (says_value v)
-answer_unresolved at e = sym (ap (λ (x : Val.Value). answered (says_value x)) e)
-
-pub answer_refused : (n at : ℕ) {v : Val.Value} → v ≡ came.Refused n at → Fault n 0 ≡ answered (says_value v)
-answer_refused n at e = sym (ap (λ (x : Val.Value). answered (says_value x)) e)
+    ∙ ap (λ (l : List ℕ). expression_at bytes l numbers place 0) new
+    ∙ expression_agrees bytes (from_nodes (notes_of bytes links edges (λ i. scope) first) numbers)
+    (found_by bytes links edges scope numbers) place 64 0
+    (λ k name. ap (by_node numbers) (resolved k name)))
 
 -- ---- in a sound table
 
@@ -86,40 +61,29 @@ module _ (t : SymbolTable) (scope : ℕ) (h : is_node t scope ≡ true) (bytes :
       rw (le-leb _ _ (node_is t scope h).0.few_edges, le-leb _ 4 few)
 
   -- and what it finds is a node of the table
-  number_found : (r : Option ℕ) → ((n : ℕ) → r ≡ some n → n < 1024) → by_node t.known t.number (noted (Done r)) ≡ read t r
-  number_found none f = refl
-  number_found (some n) f = rw (lt-ltb n 1024 (f n refl), add-one n, lt-ltb n 1024 (f n refl))
+  number_found : (r : Option ℕ) → ((n : ℕ) → r ≡ Some n → n < 1024) → by_node t.numbers (noted (Done r)) ≡ read t r
+  number_found None f = refl
+  number_found (Some n) f = rw (lt-ltb n 1024 (f n refl), add-one n, lt-ltb n 1024 (f n refl))
 
-  names_agree : (at : ℕ) → found_by bytes t.links t.edges scope t.known t.number at ≡ from_scope t scope bytes at
+  names_agree : (at : ℕ) → found_by bytes t.links t.edges scope t.numbers at ≡ from_scope t scope bytes at
   unfolding from_scope
   names_agree at =
-      ap (λ (a : Answer (Option ℕ)). by_node t.known t.number (noted a)) (node_found at)
+      ap (λ (a : Answer (Option ℕ)). by_node t.numbers (noted a)) (node_found at)
       ∙ number_found (query_of (edges_of t) scope (path_of (bytes_at bytes at)))
       (λ n e. omega (arith, query_node t scope (path_of (bytes_at bytes at)) h e, (node_is t scope h).0.few_nodes))
 
-  pub value_found : {place : ℤ} → SFits w64 place → value_from bytes t.links t.edges t.known t.number scope (back place)
+  pub value_found : (place : ℤ) → value_from bytes t.links t.edges t.numbers scope place
       ≡ (expression bytes (from_scope t scope bytes) place 64 0).1
   unfolding value_from
-  value_found {place} f =
-      ap (λ (z : ℤ). value_from bytes t.links t.edges t.known t.number scope z) (to_z-of_z f)
-      ∙ ap (λ (m : Meaning). m.1)
-      (expression_agrees bytes (found_by bytes t.links t.edges scope t.known t.number) (from_scope t scope bytes) place 64 0
+  value_found place =
+      ap (λ (m : Meaning). m.1)
+      (expression_agrees bytes (found_by bytes t.links t.edges scope t.numbers) (from_scope t scope bytes) place 64 0
       (λ k name. names_agree (onward bytes k 0)))
 
 -- ---- the call
 
-module _ (bytes : List ℕ) (t : SymbolTable) (scope : ℕ) (place : ℤ) where
-  pub evaluate_no_node : is_node t scope ≡ false → Fault argument 0 ≡ evaluate_of bytes t scope place
+module _ (bytes : List ℕ) (t : SymbolTable) (scope : ℕ) (place : ℤ) (h : is_node t scope ≡ true) where
+  pub evaluate_value : Fine tt ≡ expression_form bytes → {v : Value} → v ≡ value_from bytes t.links t.edges t.numbers scope place
+      → {a : AnswerAt ℤ} → a ≡ answered v → a ≡ evaluate_of bytes t scope place
   unfolding evaluate_of
-  evaluate_no_node h = rw h
-
-  module _ (h : is_node t scope ≡ true) where
-    pub evaluate_form : {n i : ℕ} → Fault n i ≡ expression_form bytes → Fault n i ≡ evaluate_of bytes t scope place
-    unfolding evaluate_of
-    evaluate_form e = rw (h, ← e)
-
-    pub evaluate_value : Fine tt ≡ expression_form bytes → SFits w64 place
-        → {v : Value} → v ≡ value_from bytes t.links t.edges t.known t.number scope (back place)
-        → {a : AnswerAt ℤ} → a ≡ answered v → a ≡ evaluate_of bytes t scope place
-    unfolding evaluate_of
-    evaluate_value e f pv pa = pa ∙ ap answered (pv ∙ value_found t scope h bytes f) ∙ sym (rw (h, ← e))
+  evaluate_value e pv pa = pa ∙ ap answered (pv ∙ value_found t scope h bytes place) ∙ sym (rw (h, ← e))

@@ -1,5 +1,4 @@
--- Laws of values and of meanings; and that each public call allows one answer.
-pub mod Values
+-- Laws of meanings; and that each public call allows one answer.
 pub mod Meanings
 pub mod Along
 pub mod Evaluates

@@ -1,6 +1,5 @@
 -- The public calls of the evaluator: document 01's "Evaluator". Assumes nothing: these are definitions.
-use Rattle.std.specs.Prelude.{ℕ, zero, suc, Bool, List, ltb, ℤ, get_or}
-use Rattle.std.proofs.Math.Option.{Option, none, some}
+use Rattle.std.specs.Prelude.{ℕ, zero, suc, List, ltb, ℤ, get_or, Option, None, Some}
 use Rattle.refusals.specs.Answer.{pick}
 use Rattle.refusals.specs.AnswerAt.{AnswerAt, Fine, Fault, and_then}
 use Rattle.refusals.specs.Table.{argument, unresolved}
@@ -16,25 +15,25 @@ use Rattle.evaluator.specs.Expression.{Value, Number, Unresolved, Refuses, Meani
 
 -- in a table, from a scope: "Lookup takes the node that query finds: one without a number is unresolved"
 abbrev pub read : SymbolTable → Option ℕ → Option ℤ
-read t none = none
-read t (some n) = number_at t.known t.number n
+read t None = None
+read t (Some n) = number_at t.numbers n
 
 unfoldable pub from_scope : SymbolTable → ℕ → List ℕ → ℕ → Option ℤ
 from_scope t scope tape at = read t (query_of (edges_of t) scope (path_of (bytes_at tape at)))
 
 -- where the node that the name at an offset reaches has been noted: one more than the node, or 0 where there is none
-abbrev pub by_node : List Bool → List ℤ → ℕ → Option ℤ
-by_node known number zero = none
-by_node known number (suc n) = pick (ltb n max_nodes) (number_at known number n) none
+abbrev pub by_node : List (Option ℤ) → ℕ → Option ℤ
+by_node numbers zero = None
+by_node numbers (suc n) = pick (ltb n max_nodes) (number_at numbers n) None
 
-unfoldable pub from_nodes : List ℕ → List Bool → List ℤ → ℕ → Option ℤ
-from_nodes nodes known number at = by_node known number (get_or nodes at 0)
+unfoldable pub from_nodes : List ℕ → List (Option ℤ) → ℕ → Option ℤ
+from_nodes nodes numbers at = by_node numbers (get_or nodes at 0)
 
 -- ---- the calls
 
 -- the expression at an offset of a tape whose names have been resolved
-unfoldable pub expression_at : List ℕ → List ℕ → List Bool → List ℤ → ℤ → ℕ → Meaning
-expression_at tape nodes known number place at = expression tape (from_nodes nodes known number) place max_depth at
+unfoldable pub expression_at : List ℕ → List ℕ → List (Option ℤ) → ℤ → ℕ → Meaning
+expression_at tape nodes numbers place at = expression tape (from_nodes nodes numbers) place max_depth at
 
 -- "gives 10 and 11 at 0"
 abbrev pub answered : Value → AnswerAt ℤ

@@ -1,7 +1,6 @@
 -- What an expression on a tape comes to: "expressions and factors, each meaning given in terms of the other". A meaning is where
 -- the expression ends, and its value. Assumes nothing: these are definitions.
-use Rattle.std.specs.Prelude.{ℕ, zero, suc, ◌+◌, List, eqb, ℤ, pos, neg_ℤ, length, get_or}
-use Rattle.std.proofs.Math.Option.{Option, none, some}
+use Rattle.std.specs.Prelude.{ℕ, zero, suc, ◌+◌, List, eqb, ℤ, pos, neg_ℤ, length, get_or, Option, None, Some}
 use Rattle.std.specs.Int.{w64}
 use Rattle.std.proofs.Common.{to_z}
 use Rattle.refusals.specs.Answer.{Answer, Done, Refused, pick}
@@ -51,8 +50,8 @@ modified m z = pick (eqb m 0) z (pick (eqb m 1) (pos (low_byte z)) (pos (high_by
 
 -- a name at an offset, from the number that it reaches, if it reaches one
 abbrev pub named : ℕ → ℕ → Option ℤ → Value
-named m at none = Unresolved at
-named m at (some z) = Number (modified m z)
+named m at None = Unresolved at
+named m at (Some z) = Number (modified m z)
 
 -- ---- records
 
@@ -60,7 +59,7 @@ named m at (some z) = Number (modified m z)
 unfoldable pub inner_at : List ℕ → ℕ → ℕ → Option (ℕ × ℕ)
 inner_at tape at k =
     let r = bytes_at tape at in
-    pick (eqb (get_or r 0 0) k) (some (get_or r 1 0, at + length r)) none
+    pick (eqb (get_or r 0 0) k) (Some (get_or r 1 0, at + length r)) None
 
 -- ---- expressions and factors
 
@@ -83,16 +82,16 @@ module _ (tape : List ℕ) (numbers : ℕ → Option ℤ) (place : ℤ) where
 
   -- a factor, where expressions mean e: flags and the expression that follows, or a leaf
   abbrev pub factor_by : Option (ℕ × ℕ) → (ℕ → Meaning) → ℕ → Meaning
-  factor_by (some (f, next)) e at = ((e next).0, changed at f (e next).1)
-  factor_by none e at = leaf at
+  factor_by (Some (f, next)) e at = ((e next).0, changed at f (e next).1)
+  factor_by None e at = leaf at
 
   -- an expression, where expressions mean e, and as a factor it means f: an operator with left and right, or a factor
   abbrev pub expression_by : Option (ℕ × ℕ) → (ℕ → Meaning) → Meaning → ℕ → Meaning
-  expression_by (some (op, next)) e f at =
+  expression_by (Some (op, next)) e f at =
       let left = e next in
       let right = e left.0 in
       (right.0, joined at op left.1 right.1)
-  expression_by none e f at = f
+  expression_by None e f at = f
 
   -- at most d records deep, from an offset: "depth 9"
   unfoldable pub expression : ℕ → ℕ → Meaning

@@ -1,3 +1,2 @@
--- What the tries answer, said with the numbers; and that the call allows one answer.
-pub mod Finishing
+-- That each call allows one answer.
 pub mod Unique

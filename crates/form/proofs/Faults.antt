@@ -1,39 +1,29 @@
 -- What is wrong with a record, by its bytes; what a record changes; and so what a step answers. Assumes nothing.
 use mathlib.Core.Bool.{Bool, true, false}
-use mathlib.Core.List.{List, [], ◌∷◌, ◌++◌}
+use mathlib.Core.List.{List, ◌++◌}
 use mathlib.Core.Path.{◌≡◌, sym, ap, ◌∙◌}
 use Prim.Native.Nat.{ℕ, ◌+◌, ◌≤◌}
 use native.Mathlib.Omega.{arith}
 use lib.Dec.{eqb, lit≤}
-use lib.ListN.{length, get_or, drop, replicate}
+use lib.ListN.{get_or, drop, replicate}
 use borrow.Author.Tests.{eq-eqb, ne_eqb}
+use Rattle.refusals.specs.declared.Refusal.{Refusal}
+use Rattle.refusals.specs.declared.Refusal.TheVariants as why
+use Rattle.refusals.specs.Says.{number_of}
+use Rattle.refusals.proofs.One.{refusal_of, back_number}
 use Rattle.refusals.specs.Answer.{pick}
-use Rattle.refusals.specs.Table.{bad_record, no_row}
 use Rattle.little.specs.Little.{number_at}
-use Rattle.opcodes.specs.declared.Form.{Form}
-use Rattle.opcodes.specs.Encode.{in_range}
-use Rattle.opcodes.specs.Manual.{forms_of}
 use Rattle.tape.specs.Kinds.{is_name, flags, binary, instruction, end}
 use Rattle.tape.specs.Walk.{Go, Stop, No}
-use Rattle.form.specs.Form.{Pending, pending, top, range_fault, instruction_fault, id_fault, declares, body_fault, scope_fault, fault_of, has_expression, followed, scopes_after, after, step_of}
+use Rattle.form.specs.Form.{Pending, pending, top, range_fault, instruction_fault, id_fault, declares, body_fault, fault_of, has_expression, followed, scopes_after, after, step_of}
+
+-- ---- a refusal
+
+-- its number is not 0
+pub refuses : (e : Refusal) → number_of e ≡ 0 → ⊥
+refuses e z = let first : why.Argument ≡ e = ap refusal_of (sym z) ∙ back_number e in omega (arith, ap number_of first ∙ z)
 
 -- ---- the body
-
--- an instruction's bytes are in range, and fs are the forms of its row
-module _ (a b m : ℕ) (ranged : in_range a b m ≡ true) (fs : List Form) (are : fs ≡ forms_of a b m) where
-  row_fault : pick (eqb (length fs) 0) no_row 0 ≡ instruction_fault a b m
-  unfolding instruction_fault
-  row_fault = rw (ranged, are)
-
-  pub no_row_lem : fs ≡ [] → no_row ≡ instruction_fault a b m
-  no_row_lem e = ap (λ (l : List Form). pick (eqb (length l) 0) no_row 0) (sym e) ∙ row_fault
-
-  pub a_row : (f : Form) (rest : List Form) → fs ≡ f ∷ rest → 0 ≡ instruction_fault a b m
-  a_row f rest e = let some : (length fs ≡ 0 → ⊥) = λ z. omega (arith, ap length e) in rw (ne_eqb _ 0 some) at row_fault
-
-pub out_of_range : (a b m : ℕ) → in_range a b m ≡ false → bad_record ≡ instruction_fault a b m
-unfolding instruction_fault
-out_of_range a b m e = rw e
 
 -- a kind that is none of the first three
 pub record Other (k : ℕ) : Type 0 where
@@ -49,10 +39,6 @@ module _ (r : List ℕ) (k : ℕ) (is : k ≡ get_or r 0 0) where
     unfolding body_fault
     body_instruction e b m second third = rw (first, second, third, ← is, eq-eqb k instruction e)
 
-    pub body_flags : (k ≡ instruction → ⊥) → k ≡ flags → range_fault 1 3 a ≡ body_fault r
-    unfolding body_fault
-    body_flags i e = rw (first, ← is, ne_eqb k instruction i, eq-eqb k flags e)
-
     pub body_binary : (k ≡ instruction → ⊥) → (k ≡ flags → ⊥) → k ≡ binary → range_fault 0 15 a ≡ body_fault r
     unfolding body_fault
     body_binary i f e = rw (first, ← is, ne_eqb k instruction i, ne_eqb k flags f, eq-eqb k binary e)
@@ -62,25 +48,8 @@ module _ (r : List ℕ) (k : ℕ) (is : k ≡ get_or r 0 0) where
     unfolding body_fault
     body_other = rw (← is, ne_eqb k instruction o.no_instruction, ne_eqb k flags o.no_flags, ne_eqb k binary o.no_binary)
 
-    pub body_name : is_name k ≡ true → (a : ℕ) → a ≡ get_or r 1 0 → range_fault 0 2 a ≡ body_fault r
-    body_name e a first = ap (range_fault 0 2) first ∙ rw e at body_other
-
     pub body_id : is_name k ≡ false → declares k ≡ true → (id : ℕ) → id ≡ number_at 2 r 1 → id_fault id ≡ body_fault r
     body_id n e id at = ap id_fault at ∙ rw (n, e) at body_other
-
-    pub body_any : is_name k ≡ false → declares k ≡ false → 0 ≡ body_fault r
-    body_any n e = rw (n, e) at body_other
-
--- ---- body, then scope
-
-module _ (n : ℕ) (r : List ℕ) (f : ℕ) (is : f ≡ body_fault r) where
-  pub fault_body : (f ≡ 0 → ⊥) → f ≡ fault_of n r
-  unfolding fault_of
-  fault_body z = rw (← is, ne_eqb f 0 z)
-
-  pub fault_scope : f ≡ 0 → (k : ℕ) → k ≡ get_or r 0 0 → scope_fault n k ≡ fault_of n r
-  unfolding fault_of
-  fault_scope z k kind = rw (← is, eq-eqb f 0 z, kind)
 
 -- ---- what a record changes
 

@@ -7,4 +7,5 @@ pub mod Loop
 pub mod Statements
 pub mod Numbers
 pub mod Said
+pub mod Mapped
 pub mod Unique

@@ -1,7 +1,7 @@
 -- The loop of the form check: what each turn keeps, and the answer at each way out. Assumes nothing.
 use mathlib.Core.Bool.{Bool, true, false, ◌&&◌}
 use mathlib.Core.List.{List, [], ◌∷◌, ◌++◌}
-use mathlib.Core.Path.{◌≡◌, refl, sym, ap, ◌∙◌}
+use mathlib.Core.Path.{◌≡◌, refl, sym, ap, subst, ◌∙◌}
 use Prim.Native.Nat.{ℕ, zero, suc, ◌+◌, ◌-◌, ◌≤◌, ◌<◌}
 use native.Mathlib.Omega.{arith}
 use lib.Dec.{eqb, ltb}
@@ -16,12 +16,13 @@ use Rattle.tape.specs.Record.{bytes_at}
 use Rattle.tape.specs.Walk.{Out, Go, Stop, No, Between, Ended, Bad, land}
 use Rattle.tape.proofs.Records.{record_end}
 use Rattle.form.specs.declared.State.{State}
-use Rattle.form.specs.declared.Next.{Next}
-use Rattle.form.specs.declared.Next.TheVariants as next
-use Rattle.form.specs.declared.Stepped.{Stepped}
+use Rattle.refusals.specs.declared.Refusal.{Refusal}
+use Rattle.refusals.specs.Says.{number_of}
+use Rattle.std.specs.Prelude.{Option, Some, None, Result, Ok, Err}
 use Rattle.form.specs.Form.{Pending, top, begin, max_tape, max_depth, head_fault, fault_of, followed, scopes_after, after, head_of, step_of, read_from, closed, form_of}
-use Rattle.form.specs.Steps.{view, Fit, Room, Ready, out_by, says_stepped}
-use Rattle.form.proofs.Faults.{followed_few}
+use Rattle.form.specs.Says.{fault_number}
+use Rattle.form.specs.Steps.{view, Fit, FitBehind, Room, Ready, says_stepped}
+use Rattle.form.proofs.Faults.{refuses, followed_few}
 use Rattle.form.proofs.Reading.{head_shallow, read_bad, read_behind, read_head, read_short, read_record}
 
 -- ---- room for what is pushed
@@ -95,11 +96,11 @@ pub record Turn (alone : Bool) (bytes : List ℕ) (s : State) (at : ℕ) : Type 
   pub good : head_of alone (view s) (get_or bytes at 0) ≡ 0
 
 -- its record r is whole, and the code's step over it answers o
-pub record Step (alone : Bool) (bytes : List ℕ) (s : State) (at : ℕ) (r : List ℕ) (o : Stepped) : Type 0 where
+pub record Step (alone : Bool) (bytes : List ℕ) (s : State) (at : ℕ) (r : List ℕ) (o : Result (Option State) Refusal) : Type 0 where
   pub turn : Turn alone bytes s at
   pub is : r ≡ bytes_at bytes at
   pub some : length r ≡ 0 → ⊥
-  pub told : says_stepped o ≡ step_of (view s) r
+  pub told : says_stepped s o ≡ step_of (view s) r
 
 -- ---- before the loop
 
@@ -132,16 +133,24 @@ module _ {alone : Bool} {bytes : List ℕ} {s : State} {at : ℕ} (i : Inv alone
         let e : at ≡ length bytes = omega (arith, i.near) in
         sym (done ∙ rw (drop_of_length-le bytes h, room_none (view s).depths i.room, ← due, e))
 
-    -- h: the refusal that the kind brings
-    module _ (inside : at < length bytes) (h : ℕ) (is : h ≡ head_fault alone d (get_or bytes at 0)) where
-      headed : h ≡ head_of alone (view s) (get_or bytes at 0)
+    -- h: what the kind is answered
+    module _ (inside : at < length bytes) (h : Result (Unit {0}) Refusal)
+        (is : fault_number h ≡ head_fault alone d (get_or bytes at 0)) where
+      headed : fault_number h ≡ head_of alone (view s) (get_or bytes at 0)
       headed = is ∙ rw due
 
-      pub refused_head : (h ≡ 0 → ⊥) → Fault h at ≡ form_of alone bytes
-      refused_head z = sym (done ∙ ap (closed alone) (read_head alone bytes at (view s) inside (λ e. z (headed ∙ e))) ∙ rw (← headed))
+      pub refused_head : (e : Refusal) → h ≡ Err e → Fault (number_of e) at ≡ form_of alone bytes
+      refused_head e err =
+          let no : number_of e ≡ head_of alone (view s) (get_or bytes at 0) = ap fault_number (sym err) ∙ headed in
+          sym (done ∙ ap (closed alone) (read_head alone bytes at (view s) inside (λ z. refuses e (no ∙ z))) ∙ rw (← no))
 
-      pub turn_good : h ≡ 0 → Turn alone bytes s at
-      turn_good z = record { inv = i; inside = inside; good = sym headed ∙ z }
+      pub turn_good : h ≡ Ok tt → Turn alone bytes s at
+      turn_good ok = record { inv = i; inside = inside; good = sym headed ∙ ap fault_number ok }
+
+      -- r: its record, and o what the code's step over it answers
+      pub stepped : h ≡ Ok tt → (r : List ℕ) → r ≡ bytes_at bytes at → (length r ≡ 0 → ⊥) → (o : Result (Option State) Refusal)
+          → says_stepped s o ≡ step_of (view s) r → Step alone bytes s at r o
+      stepped ok r there some o told = record { turn = turn_good ok; is = there; some = some; told = told }
 
 -- ---- where its kind is in its place
 
@@ -159,44 +168,47 @@ module _ {alone : Bool} {bytes : List ℕ} {s : State} {at : ℕ} (t : Turn alon
 
 -- ---- behind the step
 
-module _ {alone : Bool} {bytes : List ℕ} {s : State} {at : ℕ} {r : List ℕ} {o : Stepped} (t : Step alone bytes s at r o) where
+module _ {alone : Bool} {bytes : List ℕ} {s : State} {at : ℕ} {r : List ℕ} {o : Result (Option State) Refusal}
+    (t : Step alone bytes s at r o) where
   whole : length (bytes_at bytes at) ≡ 0 → ⊥
   whole e = t.some (ap length t.is ∙ e)
 
   pub within : at + length r ≤ length bytes
   within = rw t.is (record_end bytes at (length bytes) (omega (arith, t.turn.inside)) (omega arith))
 
-  landed : (n : Next) → o.next ≡ n
+  landed : (x : Out Pending) → says_stepped s o ≡ x
       → read_from alone (Between (view s) at) (drop at bytes)
-      ≡ read_from alone (land (out_by n o.state) at r) (drop (at + length r) bytes)
-  landed n e = read_record alone bytes at (view s) t.turn.inside t.turn.good whole ∙ rw (← t.is, ← t.told, e)
+      ≡ read_from alone (land x at r) (drop (at + length r) bytes)
+  landed x e = read_record alone bytes at (view s) t.turn.inside t.turn.good whole ∙ rw (← t.is, ← t.told, e)
 
-  answered : (n : Next) → o.next ≡ n
-      → form_of alone bytes ≡ closed alone (read_from alone (land (out_by n o.state) at r) (drop (at + length r) bytes))
-  answered n e = done t.turn.inv ∙ ap (closed alone) (landed n e)
+  answered : (x : Out Pending) → says_stepped s o ≡ x
+      → form_of alone bytes ≡ closed alone (read_from alone (land x at r) (drop (at + length r) bytes))
+  answered x e = done t.turn.inv ∙ ap (closed alone) (landed x e)
 
-  pub refused_step : (f : ℕ) → o.next ≡ next.No f → Fault f at ≡ form_of alone bytes
-  refused_step f e = sym (answered (next.No f) e ∙ ap (closed alone) (read_bad alone bytes at f (drop (at + length r) bytes)))
+  pub refused_step : (e : Refusal) → o ≡ Err e → Fault (number_of e) at ≡ form_of alone bytes
+  refused_step e is =
+      let f : ℕ = number_of e in
+      sym (answered (No f) (ap (says_stepped s) is) ∙ ap (closed alone) (read_bad alone bytes at f (drop (at + length r) bytes)))
 
-  pub at_stop : o.next ≡ next.Stop
+  pub at_stop : o ≡ Ok None
       → pick (ltb (at + length r) (length bytes)) (Fault cut_short (at + length r)) (Fine tt) ≡ form_of alone bytes
   at_stop e =
       let n = at + length r in
-      sym (answered next.Stop e ∙ ap (closed alone) (read_behind alone bytes n (view o.state)) ∙ go n (ltb n (length bytes)))
+      sym (answered (Stop (view s)) (ap (says_stepped s) e) ∙ ap (closed alone) (read_behind alone bytes n (view s)) ∙ go n (ltb n (length bytes)))
     where
-      go : (n : ℕ) (b : Bool) → closed alone (pick b (Bad cut_short n) (Ended (view o.state) n)) ≡ pick b (Fault cut_short n) (Fine tt)
+      go : (n : ℕ) (b : Bool) → closed alone (pick b (Bad cut_short n) (Ended (view s) n)) ≡ pick b (Fault cut_short n) (Fine tt)
       go n true = refl
       go n false = refl
 
-  pub onward : o.next ≡ next.Go → Fit o.state → Inv alone bytes o.state (at + length r)
-  onward e f =
-      let gone = ap (λ (m : Next). out_by m o.state) (sym e) ∙ t.told in
-      let v : view o.state ≡ after (view s) r = step_after (view s) (view o.state) r gone in
+  pub onward : (q : State) → o ≡ Ok (Some q) → FitBehind o → Inv alone bytes q (at + length r)
+  onward q e f =
+      let gone = ap (says_stepped s) (sym e) ∙ t.told in
+      let v : view q ≡ after (view s) r = step_after (view s) (view q) r gone in
       record {
         small = t.turn.inv.small;
         near = within;
-        fit = f;
+        fit = subst FitBehind e f;
         room = rw (ap (λ (p : Pending). p.depths) v) (room_after (view s) r t.turn.inv.room);
         few = omega (arith, ap (λ (p : Pending). p.scopes) v, few_after (view s) r, t.turn.inv.few, t.some);
-        same = t.turn.inv.same ∙ landed next.Go e;
+        same = t.turn.inv.same ∙ landed (Go (view q)) (ap (says_stepped s) e);
       }

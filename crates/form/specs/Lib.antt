@@ -1,4 +1,5 @@
 -- The definitions that the contracts of this crate cite.
 pub mod Form
 pub mod Statements
+pub mod Says
 pub mod Steps

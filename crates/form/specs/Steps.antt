@@ -1,11 +1,10 @@
 -- How the private functions of this crate keep what is pending, and what they ask. No promise of a public function rests on these.
 -- Assumes nothing: these are definitions.
-use Rattle.std.specs.Prelude.{ℕ, ◌≤◌, ◌<◌, List, [], ◌∷◌, ◌≡◌, length, drop}
+use Rattle.std.specs.Prelude.{ℕ, ◌≤◌, ◌<◌, List, [], ◌∷◌, ◌≡◌, length, drop, Option, Some, None, Result, Ok, Err}
+use Rattle.refusals.specs.declared.Refusal.{Refusal}
+use Rattle.refusals.specs.Says.{number_of}
 use Rattle.tape.specs.Walk.{Out, Go, Stop, No}
 use Rattle.form.specs.declared.State.{State}
-use Rattle.form.specs.declared.Next.{Next}
-use Rattle.form.specs.declared.Next.TheVariants as next
-use Rattle.form.specs.declared.Stepped.{Stepped}
 use Rattle.form.specs.Form.{Pending, pending, top, max_tape, max_depth}
 
 -- the depths are those from the place `from` of the array on
@@ -33,11 +32,14 @@ pub record Ready (s : State) : Type 0 where
   pub shallow : top (view s).depths ≤ max_depth
   pub few : s.scopes < max_tape
 
--- what the code's answer says
-abbrev pub out_by : Next → State → Out Pending
-out_by next.Go s = Go (view s)
-out_by next.Stop s = Stop (view s)
-out_by (next.No n) s = No n
+-- what the code's answer to a record says: of the end record that the state s is the last
+abbrev pub says_stepped : State → Result (Option State) Refusal → Out Pending
+says_stepped s (Ok (Some t)) = Go (view t)
+says_stepped s (Ok None) = Stop (view s)
+says_stepped s (Err e) = No (number_of e)
 
-abbrev pub says_stepped : Stepped → Out Pending
-says_stepped r = out_by r.next r.state
+-- the state behind it, if there is one, keeps what every state keeps
+abbrev pub FitBehind : Result (Option State) Refusal → Type 0
+FitBehind (Ok (Some t)) = Fit t
+FitBehind (Ok None) = Unit {0}
+FitBehind (Err e) = Unit {0}

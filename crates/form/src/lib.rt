@@ -4,15 +4,16 @@
 
 ghost use Rattle.std.specs.Prelude.{◌&&◌, ◌≡◌, ◌∷◌, ◌++◌, ◌+◌, ◌-◌, ◌≤◌, ◌<◌, min, eqb, ltb, drop, replicate};
 ghost use Rattle.refusals.specs.Answer.{pick};
-ghost use Rattle.refusals.specs.AnswerAt.{Fine, Fault};
+ghost use Rattle.refusals.specs.AnswerAt as answered;
 ghost use Rattle.refusals.specs.Says.{says_at};
 ghost use Rattle.refusals.specs.Table.{cut_short};
 ghost use Rattle.form.specs.Form.{max_tape, pending, top, begin, expression_fault, outside_fault, head_fault, range_fault, instruction_fault, id_fault, declares, is_numbered, body_fault, scope_fault, fault_of, has_expression, followed, scopes_after, after, step_of, form_of, tape_form, expression_form};
 ghost use Rattle.form.specs.Statements.{is_last, is_inner, is_followed, what_of};
-ghost use Rattle.form.specs.Steps.{places, Fit, Ready, view, says_stepped};
+ghost use Rattle.form.specs.Says.{fault_number};
+ghost use Rattle.form.specs.Steps.{places, Fit, FitBehind, Ready, view, says_stepped};
 
 use opcodes::Forms;
-use refusals::{ARGUMENT, BAD_RECORD, CUT_SHORT, NO_ROW, OutcomeAt, TOO_DEEP, UNPAIRED};
+use refusals::{Fault, Refusal};
 use tape::{
     BINARY, BYTE, CLOSE_SCOPE, CONSTANT, END, FLAGS, INSTRUCTION, LABEL, OPEN_SCOPE, SET_PLACE,
     WORD,
@@ -31,36 +32,18 @@ const IMPLIED: u8 = 0;
 const PLACES: usize = 66;
 
 // The open scopes; and the depths of the expressions still to come, the next first, from the place `from` of the array on.
-#[derive(Clone, Copy)]
+#[derive(Clone, Copy, Debug, PartialEq, Eq)]
 struct State {
     scopes: usize,
     from: usize,
     depths: [u8; PLACES],
 }
 
-// What a record does: it goes on, it ends the tape, or it is refused.
-#[derive(Clone, Copy)]
-enum Next {
-    Go,
-    Stop,
-    No(u8),
-}
-
-// What a record does, and the state behind it.
-#[derive(Clone, Copy)]
-struct Stepped {
-    next: Next,
-    state: State,
-}
-
 // Whether no statement stands behind a record: it is the end record, or there is none.
 pub fn is_last(rec: &[u8]) -> bool
     ensures { result ≡ is_last rec.now }
 {
-    if rec.len() == 0 {
-        return true;
-    }
-    rec[0] == END
+    rec.is_empty() || rec[0] == END
 }
 
 // Whether a record belongs to an expression.
@@ -82,46 +65,40 @@ pub fn is_followed(rec: &[u8]) -> bool
 }
 
 // The form of a whole tape.
-pub fn form(tape: &[u8]) -> OutcomeAt
+pub fn form(tape: &[u8]) -> Result<(), Fault>
     ensures { says_at result ≡ tape_form tape.now }
 {
     check(tape, false)
 }
 
 // The form of an expression alone.
-pub fn expression_form(bytes: &[u8]) -> OutcomeAt
+pub fn expression_form(bytes: &[u8]) -> Result<(), Fault>
     ensures { says_at result ≡ expression_form bytes.now }
 {
     check(bytes, true)
 }
 
 // Both: record by record, until one is refused or the bytes are at their end.
-fn check(bytes: &[u8], alone: bool) -> OutcomeAt
+fn check(bytes: &[u8], alone: bool) -> Result<(), Fault>
     ensures { says_at result ≡ form_of alone bytes.now }
 {
     let len = bytes.len();
     if LONGEST < len {
-        return refused(ARGUMENT, 0);
+        return Err(Refusal::Argument.at(0));
     }
     let mut s = start(alone);
     let mut at: usize = 0;
+    // A record's length is the step of this walk: no index is counted.
     while at < len {
-        let h = head_fault(alone, depth(s), bytes[at]);
-        if h != 0 {
-            return refused(h, at);
-        }
+        head_fault(alone, depth(s), bytes[at]).map_err(|why| why.at(at))?;
         let rec = tape::record(bytes, at);
         let n = rec.len();
         if n == 0 {
-            return refused(CUT_SHORT, at);
+            return Err(Refusal::CutShort.at(at));
         }
-        let out = step(s, rec);
-        let next = out.next;
-        match next {
-            Next::No(f) => return refused(f, at),
-            Next::Stop => return ended(at + n, len),
-            Next::Go => {
-                let t = out.state;
+        match step(s, rec).map_err(|why| why.at(at))? {
+            None => return ended(at + n, len),
+            Some(t) => {
                 s = t;
                 at += n;
             }
@@ -130,34 +107,24 @@ fn check(bytes: &[u8], alone: bool) -> OutcomeAt
     closed(alone, depth(s), len)
 }
 
-// A refusal.
-fn refused(number: u8, at: usize) -> OutcomeAt
-    ensures { says_at result ≡ Fault number at }
-{
-    OutcomeAt::Refused { number, at }
-}
-
 // Behind the end record nothing stands.
-fn ended(end: usize, len: usize) -> OutcomeAt
-    ensures { says_at result ≡ pick (ltb end len) (Fault cut_short end) (Fine tt) }
+fn ended(end: usize, len: usize) -> Result<(), Fault>
+    ensures { says_at result ≡ pick (ltb end len) (answered.Fault cut_short end) (answered.Fine tt) }
 {
     if end < len {
-        return refused(CUT_SHORT, end);
+        return Err(Refusal::CutShort.at(end));
     }
-    OutcomeAt::Done
+    Ok(())
 }
 
 // Where the bytes are at their end without an end record: an expression alone may end where nothing is to come.
-fn closed(alone: bool, d: u8, len: usize) -> OutcomeAt
-    ensures { says_at result ≡ pick (alone && eqb d 0) (Fine tt) (Fault cut_short len) }
+fn closed(alone: bool, d: u8, len: usize) -> Result<(), Fault>
+    ensures { says_at result ≡ pick (alone && eqb d 0) (answered.Fine tt) (answered.Fault cut_short len) }
 {
-    if !alone {
-        return refused(CUT_SHORT, len);
+    if alone && d == 0 {
+        return Ok(());
     }
-    if d == 0 {
-        return OutcomeAt::Done;
-    }
-    refused(CUT_SHORT, len)
+    Err(Refusal::CutShort.at(len))
 }
 
 // Before the first record.
@@ -188,9 +155,10 @@ fn popped(s: State) -> State
 {
     let from = s.from;
     if from < PLACES {
-        let mut t = s;
-        t.from = from + 1;
-        t
+        State {
+            from: from + 1,
+            ..s
+        }
     } else {
         s
     }
@@ -222,9 +190,10 @@ fn pushed_all(s: State, n: usize, d: u8) -> State
     pushed(pushed(s, d), d)
 }
 
-// The refusal that a kind brings where an expression of depth d is to come, or, at 0, none; or 0.
-fn head_fault(alone: bool, d: u8, kind: u8) -> u8
-    ensures { result ≡ head_fault alone d kind }
+// Refuses a kind where an expression of depth d is to come, or, at 0, none.
+#[tactic(auto, unfolding(crate::specs::Form::head_fault))]
+fn head_fault(alone: bool, d: u8, kind: u8) -> Result<(), Refusal>
+    ensures { fault_number result ≡ head_fault alone d kind }
 {
     if d == 0 {
         outside_fault(alone, kind)
@@ -234,63 +203,74 @@ fn head_fault(alone: bool, d: u8, kind: u8) -> u8
 }
 
 // The same where an expression record of depth d is to come.
-fn expression_fault(d: u8, kind: u8) -> u8
-    ensures { result ≡ expression_fault d kind }
+#[tactic(auto, unfolding(crate::specs::Form::expression_fault))]
+fn expression_fault(d: u8, kind: u8) -> Result<(), Refusal>
+    ensures { fault_number result ≡ expression_fault d kind }
 {
     if !tape::is_expression(kind) {
-        return BAD_RECORD;
+        return Err(Refusal::BadRecord);
     }
-    if d <= DEEPEST { 0 } else { TOO_DEEP }
+    if DEEPEST < d {
+        return Err(Refusal::TooDeep);
+    }
+    Ok(())
 }
 
 // The same where none is.
-fn outside_fault(alone: bool, kind: u8) -> u8
-    ensures { result ≡ outside_fault alone kind }
+#[tactic(auto, unfolding(crate::specs::Form::outside_fault))]
+fn outside_fault(alone: bool, kind: u8) -> Result<(), Refusal>
+    ensures { fault_number result ≡ outside_fault alone kind }
 {
     if alone {
-        return CUT_SHORT;
+        return Err(Refusal::CutShort);
     }
-    if tape::is_statement(kind) {
-        0
-    } else {
-        BAD_RECORD
+    if !tape::is_statement(kind) {
+        return Err(Refusal::BadRecord);
     }
+    Ok(())
 }
 
-// The refusal of a byte that has to be from `least` to `most`, or 0.
-fn range_fault(least: u8, most: u8, a: u8) -> u8
-    ensures { result ≡ range_fault least most a }
+// Refuses a byte that is not from `least` to `most`.
+#[tactic(auto, unfolding(crate::specs::Form::range_fault))]
+fn range_fault(least: u8, most: u8, a: u8) -> Result<(), Refusal>
+    ensures { fault_number result ≡ range_fault least most a }
 {
-    if a < least {
-        return BAD_RECORD;
+    if a < least || most < a {
+        return Err(Refusal::BadRecord);
     }
-    if a <= most { 0 } else { BAD_RECORD }
+    Ok(())
 }
 
-// The refusal of an instruction's body, or 0.
-fn instruction_fault(mnemonic: u8, mode: u8, suffix: u8) -> u8
-    ensures { result ≡ instruction_fault mnemonic mode suffix }
+// Refuses the body of an instruction.
+#[tactic(auto, unfolding(crate::specs::Form::instruction_fault))]
+fn instruction_fault(mnemonic: u8, mode: u8, suffix: u8) -> Result<(), Refusal>
+    ensures { fault_number result ≡ instruction_fault mnemonic mode suffix }
 {
     if !opcodes::in_range(mnemonic, mode, suffix) {
-        return BAD_RECORD;
+        return Err(Refusal::BadRecord);
     }
     match opcodes::forms_of(mnemonic, mode, suffix) {
-        Forms::None => NO_ROW,
-        Forms::One(_) => 0,
-        Forms::Two(_, _) => 0,
+        Forms::None => Err(Refusal::NoRow),
+        Forms::One(_) => Ok(()),
+        Forms::Two(_, _) => Ok(()),
     }
 }
 
-// The refusal of a declaration's id, or 0.
-fn id_fault(id: u16) -> u8
-    ensures { result ≡ id_fault id }
+// Refuses the id of a declaration.
+#[tactic(auto, unfolding(crate::specs::Form::id_fault))]
+fn id_fault(id: u16) -> Result<(), Refusal>
+    ensures { fault_number result ≡ id_fault id }
 {
-    if id == 0 { BAD_RECORD } else { 0 }
+    if id == 0 {
+        return Err(Refusal::BadRecord);
+    }
+    Ok(())
 }
 
-// The refusal that the body of a record brings, or 0.
-fn body_fault(rec: &[u8]) -> u8
-    ensures { result ≡ body_fault rec.now }
+// Refuses the body of a record.
+#[tactic(auto, unfolding(crate::specs::Form::body_fault))]
+fn body_fault(rec: &[u8]) -> Result<(), Refusal>
+    ensures { fault_number result ≡ body_fault rec.now }
 {
     let kind = little::u8_at(rec, 0);
     if kind == INSTRUCTION {
@@ -312,65 +292,57 @@ fn body_fault(rec: &[u8]) -> u8
     if declares(kind) {
         return id_fault(little::u16_at(rec, 1));
     }
-    0
+    Ok(())
 }
 
 // Whether a record of this kind declares a name.
+#[tactic(auto, unfolding(crate::specs::Form::declares))]
 pub fn declares(kind: u8) -> bool
     ensures { result ≡ declares kind }
 {
-    if kind == OPEN_SCOPE {
-        return true;
-    }
-    if kind == LABEL {
-        return true;
-    }
-    kind == CONSTANT
+    kind == OPEN_SCOPE || kind == LABEL || kind == CONSTANT
 }
 
 // Whether what a record of this kind declares has a number: labels and constants.
+#[tactic(auto, unfolding(crate::specs::Form::is_numbered))]
 pub fn is_numbered(kind: u8) -> bool
     ensures { result ≡ is_numbered kind }
 {
-    if kind == LABEL {
-        return true;
-    }
-    kind == CONSTANT
+    kind == LABEL || kind == CONSTANT
 }
 
 // How many names a record of this kind declares.
 pub fn names_in(kind: u8) -> usize
     ensures { result ≡ pick (declares kind) 1 0 }
 {
-    if declares(kind) { 1 } else { 0 }
+    usize::from(declares(kind))
 }
 
-// The refusal that a record brings by the scopes that are open, or 0.
-fn scope_fault(scopes: usize, kind: u8) -> u8
-    ensures { result ≡ scope_fault scopes kind }
+// Refuses a record by the scopes that are open.
+#[tactic(auto, unfolding(crate::specs::Form::scope_fault))]
+fn scope_fault(scopes: usize, kind: u8) -> Result<(), Refusal>
+    ensures { fault_number result ≡ scope_fault scopes kind }
 {
-    if kind == CLOSE_SCOPE {
-        return if scopes == 0 { UNPAIRED } else { 0 };
+    if kind == CLOSE_SCOPE && scopes == 0 {
+        return Err(Refusal::Unpaired);
     }
-    if kind == END {
-        return if scopes == 0 { 0 } else { UNPAIRED };
+    if kind == END && scopes != 0 {
+        return Err(Refusal::Unpaired);
     }
-    0
+    Ok(())
 }
 
-// The refusal that a whole record brings, or 0.
-fn fault(scopes: usize, rec: &[u8]) -> u8
-    ensures { result ≡ fault_of scopes rec.now }
+// Refuses a whole record.
+#[tactic(auto, unfolding(crate::specs::Form::fault_of))]
+fn fault(scopes: usize, rec: &[u8]) -> Result<(), Refusal>
+    ensures { fault_number result ≡ fault_of scopes rec.now }
 {
-    let f = body_fault(rec);
-    if f == 0 {
-        scope_fault(scopes, little::u8_at(rec, 0))
-    } else {
-        f
-    }
+    body_fault(rec)?;
+    scope_fault(scopes, little::u8_at(rec, 0))
 }
 
 // How many expressions follow a record.
+#[tactic(auto, unfolding(crate::specs::Form::followed))]
 fn followers(kind: u8, mode: u8) -> usize
     ensures { result ≡ followed kind mode }
 {
@@ -381,28 +353,21 @@ fn followers(kind: u8, mode: u8) -> usize
         return 1;
     }
     if kind == INSTRUCTION {
-        return if mode == IMPLIED { 0 } else { 1 };
+        return usize::from(mode != IMPLIED);
     }
-    if has_expression(kind) { 1 } else { 0 }
+    usize::from(has_expression(kind))
 }
 
 // Whether one expression always follows a statement of this kind.
+#[tactic(auto, unfolding(crate::specs::Form::has_expression))]
 fn has_expression(kind: u8) -> bool
     ensures { result ≡ has_expression kind }
 {
-    if kind == CONSTANT {
-        return true;
-    }
-    if kind == SET_PLACE {
-        return true;
-    }
-    if kind == BYTE {
-        return true;
-    }
-    kind == WORD
+    kind == CONSTANT || kind == SET_PLACE || kind == BYTE || kind == WORD
 }
 
 // How many scopes are open behind a record of this kind, where n are.
+#[tactic(auto, unfolding(crate::specs::Form::scopes_after))]
 fn scopes_after(n: usize, kind: u8) -> usize
     requires { n < max_tape }
     ensures { result ≡ scopes_after n kind }
@@ -411,7 +376,7 @@ fn scopes_after(n: usize, kind: u8) -> usize
         return n + 1;
     }
     if kind == CLOSE_SCOPE {
-        return if n == 0 { 0 } else { n - 1 };
+        return n.saturating_sub(1);
     }
     n
 }
@@ -424,33 +389,22 @@ fn moved(s: State, rec: &[u8]) -> State
     let kind = little::u8_at(rec, 0);
     let d = depth(s) + 1;
     let n = followers(kind, little::u8_at(rec, 2));
-    let mut t = popped(s);
-    t.scopes = scopes_after(s.scopes, kind);
+    let t = State {
+        scopes: scopes_after(s.scopes, kind),
+        ..popped(s)
+    };
     pushed_all(t, n, d)
 }
 
-// One whole record, whose kind is in its place.
-fn step(s: State, rec: &[u8]) -> Stepped
+// One whole record, whose kind is in its place: the state behind it, or none behind the end record.
+#[tactic(auto, unfolding(crate::specs::Form::step_of))]
+fn step(s: State, rec: &[u8]) -> Result<Option<State>, Refusal>
     requires { Ready s }
-    ensures { (says_stepped result ≡ step_of (view s) rec.now) × Fit result.state }
+    ensures { (says_stepped s result ≡ step_of (view s) rec.now) × FitBehind result }
 {
-    let n = s.scopes;
-    let f = fault(n, rec);
-    if f != 0 {
-        return Stepped {
-            next: Next::No(f),
-            state: s,
-        };
-    }
+    fault(s.scopes, rec)?;
     if little::u8_at(rec, 0) == END {
-        return Stepped {
-            next: Next::Stop,
-            state: s,
-        };
+        return Ok(None);
     }
-    let t = moved(s, rec);
-    Stepped {
-        next: Next::Go,
-        state: t,
-    }
+    Ok(Some(moved(s, rec)))
 }

@@ -1,8 +1,8 @@
 -- What the tests of a call say, one behind the other, and which answer the definitions give behind them. Assumes nothing.
+use Rattle.std.specs.Prelude.{Option, None, Some}
 use mathlib.Core.Bool.{Bool, true, false, ◌&&◌, and-eq-true_iff}
 use mathlib.Core.Path.{◌≡◌, refl, sym, ap, ◌∙◌, subst}
 use mathlib.Core.List.{List, [], ◌∷◌}
-use mathlib.Core.Option.{Option, none, some}
 use Prim.Native.Nat.{ℕ, ◌+◌, ◌-◌, ◌<◌, ◌≤◌}
 use native.Mathlib.Omega.{arith}
 use lib.Dec.{eqb, leb, ltb}
@@ -67,11 +67,11 @@ module _ (es : List Edge) (s : ℕ) (r : rooted es s ≡ true) where
   unfolding has
   on_here e = rw ((chain_first es s r).1, eq-eqb _ _ e)
 
-  pub on_up : {x p : ℕ} → parent_of es 0 ≡ none → (s ≡ x → ⊥) → parent_of es s ≡ some p → has x (chain es s) ≡ has x (chain es p)
+  pub on_up : {x p : ℕ} → parent_of es 0 ≡ None → (s ≡ x → ⊥) → parent_of es s ≡ Some p → has x (chain es s) ≡ has x (chain es p)
   unfolding has
   on_up top n e = rw ((chain_rest es s r top e).1, ne_eqb _ _ n)
 
-  pub on_top : {x : ℕ} → (s ≡ x → ⊥) → parent_of es s ≡ none → has x (chain es s) ≡ false
+  pub on_top : {x : ℕ} → (s ≡ x → ⊥) → parent_of es s ≡ None → has x (chain es s) ≡ false
   unfolding has
   on_top n e = rw (chain_alone es s r e, ne_eqb _ _ n)
 
@@ -114,8 +114,8 @@ deepest_node es n s [] ok l = l
 deepest_node es n s (x ∷ path) ok l = go (λ c. deepest_node es n c path ok) (child_of es s x) refl
   where
     go : ((c : ℕ) → c < n → (deepest es c path).0 < n) → (f : Option ℕ) → child_of es s x ≡ f → (deepest es s (x ∷ path)).0 < n
-    go ih none e = rw e l
-    go ih (some c) e = rw e (ih c (fit_child es n s x c ok e))
+    go ih None e = rw e l
+    go ih (Some c) e = rw e (ih c (fit_child es n s x c ok e))
 
 -- a table with the node s: the chain of the deepest node below s ends at the root
 pub deepest_ends : (n k : ℕ) (links : List ℕ) (s : ℕ) (path : List ℕ) → is_node_in n k (edges_in links k) s ≡ true

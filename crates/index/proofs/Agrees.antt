@@ -1,8 +1,8 @@
 -- The index of edges that fit a table answers as the edges do: what an edge more changes in its words, and then edge by edge. Assumes
 -- nothing.
+use Rattle.std.specs.Prelude.{Option, None, Some}
 use mathlib.Core.Bool.{Bool, true, false, and-eq-true_iff}
 use mathlib.Core.List.{List, [], ◌∷◌}
-use mathlib.Core.Option.{Option, none, some}
 use mathlib.Core.Path.{◌≡◌, refl, sym, ap, ◌∙◌, subst}
 use Prim.Native.Nat.{ℕ, zero, suc, ◌+◌, ◌-◌, ◌<◌, ◌≤◌, min}
 use native.Mathlib.Numerals.{add-one}
@@ -125,7 +125,7 @@ module _ (links : List ℕ) (s x : ℕ) (index after : List ℕ) (n : ℕ) (few 
       let e = edge_at links (min k last_edge) in
       let before = older_word index k (omega arith) in
       let now = sym (older_word after k (omega arith)) ∙ same k (omega arith) ∙ before in
-      ap (λ (rest : Option ℕ). pick (is_named s x e) (some e.to) rest)
+      ap (λ (rest : Option ℕ). pick (is_named s x e) (Some e.to) rest)
       (ap (among after links s x f) now ∙ among_same f (older_than index k) (omega (arith, before, falls k)))
 
 -- ---- edge by edge
@@ -196,7 +196,7 @@ module _ (links : List ℕ) where
           (m.newest here (omega arith))
 
       child_more : (f : ℕ) → suc n ≤ f → ((g : ℕ) → n ≤ g → asked (index n) g ≡ child_of (edges_in links n) s x)
-          → asked l f ≡ pick (is_named s x e) (some e.to) (child_of (edges_in links n) s x)
+          → asked l f ≡ pick (is_named s x e) (Some e.to) (child_of (edges_in links n) s x)
       child_more f room ih = go (eqb here its) refl (is_named s x e) refl
         where
           is : e ≡ edge_at links (min (n + 1 - 1) last_edge)
@@ -218,12 +218,12 @@ module _ (links : List ℕ) where
               ∙ ap (older_than l) same
 
           go : (t : Bool) → eqb here its ≡ t → (u : Bool) → is_named s x e ≡ u
-              → asked l f ≡ pick u (some e.to) (child_of (edges_in links n) s x)
+              → asked l f ≡ pick u (Some e.to) (child_of (edges_in links n) s x)
           go true p true q =
               newest (eqb-true here its p) ∙ among_here l links s x (omega arith) (λ z. omega arith) is q
           go true p false q =
               let here-is = eqb-true here its p in
-              newest here-is ∙ among_on l links s x (omega arith) (λ z. omega arith) is q (next_older here-is)
+              newest here-is ∙ among_on l links s x (omega arith) (λ z. omega arith) is q (next_older here-is) refl
               ∙ before (f - 1) ∙ ih (f - 1) (omega arith)
           go false p true q =
               let named = (and-eq-true_iff (eqb e.from s) (eqb e.id x)).0 q in
@@ -257,7 +257,7 @@ module _ (links : List ℕ) where
         parent_more : (n : ℕ) → s < max_nodes → suc n ≤ max_edges → Fit (suc n)
             → less1 (get_or (index n) (node_word s) 0) ≡ parent_of (edges_in links n) s
             → less1 (get_or (noted (index n) n (last n)) (node_word s) 0)
-            ≡ pick (eqb (last n).to s) (some (last n).from) (parent_of (edges_in links n) s)
+            ≡ pick (eqb (last n).to s) (Some (last n).from) (parent_of (edges_in links n) s)
         parent_more n below few fit ih = go (eqb (last n).to s) refl
           where
             h : ((last n).from < max_nodes) × ((last n).to < max_nodes) × Fit n
@@ -267,7 +267,7 @@ module _ (links : List ℕ) where
             long = (made n (omega arith) h.2).long
 
             go : (t : Bool) → eqb (last n).to s ≡ t → less1 (get_or (noted (index n) n (last n)) (node_word s) 0)
-                ≡ pick t (some (last n).from) (parent_of (edges_in links n) s)
+                ≡ pick t (Some (last n).from) (parent_of (edges_in links n) s)
             go true p =
                 let is = sym (eqb-true (last n).to s p) in
                 let one : (last n).from + 1 ≡ suc (last n).from = omega arith in
@@ -280,19 +280,19 @@ module _ (links : List ℕ) where
                 ∙ ih
 
     -- no edge leads beyond the nodes
-    none_beyond : (n : ℕ) → max_nodes ≤ s → Fit n → none ≡ parent_of (edges_in links n) s
+    none_beyond : (n : ℕ) → max_nodes ≤ s → Fit n → None ≡ parent_of (edges_in links n) s
     unfolding edges_in parent_of
     none_beyond zero beyond fit = refl
     none_beyond (suc n) beyond fit =
         let h = fit_last n fit in
         none_beyond n beyond h.2
-        ∙ sym (ap (λ (t : Bool). pick t (some (last n).from) (parent_of (edges_in links n) s)) (ne_eqb (last n).to s (λ z. omega arith)))
+        ∙ sym (ap (λ (t : Bool). pick t (Some (last n).from) (parent_of (edges_in links n) s)) (ne_eqb (last n).to s (λ z. omega arith)))
 
     pub parent_agrees : (n : ℕ) → n ≤ max_edges → Fit n → parent_by (index n) s ≡ parent_of (edges_in links n) s
     unfolding parent_by
     parent_agrees n few fit = go (ltb s max_nodes) refl
       where
-        go : (t : Bool) → ltb s max_nodes ≡ t → pick t (less1 (get_or (index n) (node_word s) 0)) none ≡ parent_of (edges_in links n) s
+        go : (t : Bool) → ltb s max_nodes ≡ t → pick t (less1 (get_or (index n) (node_word s) 0)) None ≡ parent_of (edges_in links n) s
         go true p = parent_word n (ltb-true s max_nodes p) few fit
         go false p = none_beyond n (ltb-false s max_nodes p) fit
 
@@ -307,13 +307,13 @@ module _ (links : List ℕ) where
     unfolding walk_by walk_of
     walk_agrees [] s = refl
     walk_agrees (x ∷ path) s =
-        ap (λ (o : Option ℕ). found o none (λ m. walk_by (index n) links n path m)) (step_agrees s x)
+        ap (λ (o : Option ℕ). found o None (λ m. walk_by (index n) links n path m)) (step_agrees s x)
         ∙ go (step_of (edges_in links n) s x) (λ m. walk_agrees path m)
       where
         go : (o : Option ℕ) → ((m : ℕ) → walk_by (index n) links n path m ≡ walk_of (edges_in links n) path m)
-            → found o none (λ m. walk_by (index n) links n path m) ≡ found o none (λ m. walk_of (edges_in links n) path m)
-        go none ih = refl
-        go (some m) ih = ih m
+            → found o None (λ m. walk_by (index n) links n path m) ≡ found o None (λ m. walk_of (edges_in links n) path m)
+        go None ih = refl
+        go (Some m) ih = ih m
 
 -- ---- words that hold the same edges have one index
 

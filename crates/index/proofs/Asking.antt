@@ -1,7 +1,7 @@
 -- What a look-up by the index says of the edges, where they fit and the index is theirs; and the way up. Assumes nothing.
+use Rattle.std.specs.Prelude.{Option, Some}
 use mathlib.Core.Bool.{true}
 use mathlib.Core.List.{List}
-use mathlib.Core.Option.{Option, some}
 use mathlib.Core.Path.{◌≡◌, ap, ◌∙◌}
 use Prim.Native.Nat.{ℕ, min}
 use native.Mathlib.Omega.{arith}
@@ -26,7 +26,7 @@ module _ (index links : List ℕ) (n s : ℕ) (a : Asks index links n s) where
       told ∙ ap (λ (l : List ℕ). parent_by l s) a.indexed ∙ parent_agrees links s n a.fit.0 a.fit.1
 
   -- a parent's chain ends at the root too
-  pub asks_up : {p : ℕ} → parent_of (edges_in links n) s ≡ some p → Asks index links n p
+  pub asks_up : {p : ℕ} → parent_of (edges_in links n) s ≡ Some p → Asks index links n p
   asks_up up = record {
     fit = a.fit;
     indexed = a.indexed;

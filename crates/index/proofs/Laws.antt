@@ -1,28 +1,28 @@
 -- One turn of a look-up by the index, and an index edge by edge. Assumes nothing.
+use Rattle.std.specs.Prelude.{Option, None, Some}
 use mathlib.Core.Bool.{true, false, ◌||◌}
 use mathlib.Core.List.{List, [], ◌∷◌}
-use mathlib.Core.Option.{Option, none, some}
 use mathlib.Core.Path.{◌≡◌, refl, sym, ap, ◌∙◌}
 use Prim.Native.Nat.{ℕ, zero, suc, ◌+◌, ◌-◌, ◌<◌, ◌≤◌, min}
 use native.Mathlib.Omega.{arith}
 use native.Mathlib.Numerals.{add-one}
 use lib.Dec.{eqb}
-use lib.ListN.{length, get_or, set, take, replicate, get_or-eq_default}
-use borrow.Author.Tests.{eq-eqb, ne_eqb, lt-ltb, le-ltb}
+use lib.ListN.{length, get_or, take, replicate}
+use borrow.Author.Tests.{eq-eqb, ne_eqb, lt-ltb}
 use Rattle.edges.specs.declared.Edge.{Edge}
-use Rattle.edges.specs.Edges.{max_nodes, max_edges, max_path, found, has, last_edge, edge_at}
+use Rattle.edges.specs.Edges.{max_nodes, max_edges, found, has, last_edge, edge_at}
 use Rattle.edges.proofs.Laws.{edge_here}
-use Rattle.index.specs.Index.{bucket, edge_word, node_word, older_than, is_named, among, child_by, less1, parent_by, id_at, ids_from, path_in, ids_of, step_by, walk_by, noted, added, words, index_of}
+use Rattle.index.specs.Index.{bucket, edge_word, older_than, is_named, among, child_by, id_at, ids_from, path_in, ids_of, step_by, walk_by, noted, added, words, index_of}
 
 -- ---- one turn: n edges are left to look at, and edge k - 1 is the next
 
 module _ (index links : List ℕ) (s x : ℕ) where
-  pub among_out : (n k : ℕ) → n ≤ 0 → among index links s x n k ≡ none
+  pub among_out : (n k : ℕ) → n ≤ 0 → among index links s x n k ≡ None
   unfolding among
   among_out zero k h = refl
   among_out (suc n) k h = absurd (omega arith)
 
-  pub among_none : (n : ℕ) {k : ℕ} → k ≡ 0 → among index links s x n k ≡ none
+  pub among_none : (n : ℕ) {k : ℕ} → k ≡ 0 → among index links s x n k ≡ None
   unfolding among
   among_none zero e = refl
   among_none (suc n) e = rw e
@@ -34,63 +34,27 @@ module _ (index links : List ℕ) (s x : ℕ) where
         let b : k ≡ suc (k - 1) = omega arith in
         λ i. among index links s x (a i) (b i)
 
-    pub among_here : is_named s x e ≡ true → among index links s x n k ≡ some e.to
+    pub among_here : is_named s x e ≡ true → among index links s x n k ≡ Some e.to
     unfolding among
     among_here named = turn ∙ rw (← is, named)
 
-    pub among_on : is_named s x e ≡ false → {next : ℕ} → next ≡ older_than index (k - 1)
-        → among index links s x n k ≡ among index links s x (n - 1) next
+    pub among_on : is_named s x e ≡ false → {next : ℕ} → next ≡ older_than index (k - 1) → {m : ℕ} → m ≡ n - 1
+        → among index links s x n k ≡ among index links s x m next
     unfolding among
-    among_on other next-is = turn ∙ rw (← is, other, next-is)
+    among_on other next-is m-is = turn ∙ rw (← is, other, next-is, m-is)
 
 -- all of them, from the newest of the bucket on
-pub among_all : (index links : List ℕ) (n s x : ℕ) {b k : ℕ} → b ≡ bucket s x → k ≡ get_or index b 0
-    → child_by index links n s x ≡ among index links s x n k
+pub among_all : (index links : List ℕ) (n s x : ℕ) {b k m : ℕ} → b ≡ bucket s x → k ≡ get_or index b 0 → m ≡ n
+    → child_by index links n s x ≡ among index links s x m k
 unfolding child_by
-among_all index links n s x b-is k-is = rw (k-is, b-is)
-
--- ---- the parent
-
-module _ (index : List ℕ) (s : ℕ) where
-  pub parent_beyond : max_nodes ≤ s → none ≡ parent_by index s
-  unfolding parent_by
-  parent_beyond h = rw (le-ltb s max_nodes h)
-
-  module _ (below : s < max_nodes) {w : ℕ} (is : w ≡ s) where
-    pub parent_none : get_or index (node_word w) 0 ≡ 0 → none ≡ parent_by index s
-    unfolding parent_by
-    parent_none z = rw (lt-ltb s max_nodes below, ← is, z)
-
-    pub parent_some : (get_or index (node_word w) 0 ≡ 0 → ⊥) → some (get_or index (node_word w) 0 - 1) ≡ parent_by index s
-    unfolding parent_by
-    parent_some z =
-        let up = get_or index (node_word w) 0 in
-        let e : up ≡ suc (up - 1) = omega arith in
-        rw (lt-ltb s max_nodes below, ← is) (sym (ap less1 e))
+among_all index links n s x b-is k-is all = rw (all, k-is, b-is)
 
 -- ---- an edge more
 
 module _ (index : List ℕ) (i : ℕ) (e : Edge) where
-  pub three_words : {b to : ℕ} → b ≡ bucket e.from e.id → to ≡ e.to
-      → set (set (set index (edge_word i) (get_or index b 0)) b (i + 1)) (node_word to) (e.from + 1) ≡ noted index i e
-  unfolding noted
-  three_words b-is to_is = rw (b-is, to_is)
-
   pub added_room : i < max_edges → e.from < max_nodes → e.to < max_nodes → noted index i e ≡ added index i e
   unfolding added
   added_room a b c = rw (lt-ltb i max_edges a, lt-ltb e.from max_nodes b, lt-ltb e.to max_nodes c)
-
-  pub added_full : max_edges ≤ i → index ≡ added index i e
-  unfolding added
-  added_full h = rw (le-ltb i max_edges h)
-
-  pub added_from : i < max_edges → max_nodes ≤ e.from → index ≡ added index i e
-  unfolding added
-  added_from a h = rw (lt-ltb i max_edges a, le-ltb e.from max_nodes h)
-
-  pub added_to : i < max_edges → e.from < max_nodes → max_nodes ≤ e.to → index ≡ added index i e
-  unfolding added
-  added_to a b h = rw (lt-ltb i max_edges a, lt-ltb e.from max_nodes b, le-ltb e.to max_nodes h)
 
 pub indexless : (links : List ℕ) → replicate words 0 ≡ index_of links 0
 unfolding index_of
@@ -108,30 +72,7 @@ module _ (index : List ℕ) (i : ℕ) where
   unfolding older_than
   older_word h = rw (lt-ltb i max_edges h)
 
-  pub older_beyond : max_edges ≤ i → 0 ≡ older_than index i
-  unfolding older_than
-  older_beyond h = rw (le-ltb i max_edges h)
-
 -- ---- a path
-
-module _ (index links : List ℕ) (n s x : ℕ) where
-  pub step_super : x ≡ 0 → parent_by index s ≡ step_by index links n s x
-  unfolding step_by
-  step_super e = rw (eq-eqb _ _ e)
-
-  pub step_name : (x ≡ 0 → ⊥) → child_by index links n s x ≡ step_by index links n s x
-  unfolding step_by
-  step_name e = rw (ne_eqb _ _ e)
-
--- the id at i
-module _ (ids : List ℕ) (i : ℕ) where
-  pub id_here : i < max_path → get_or ids i 0 ≡ id_at ids i
-  unfolding id_at
-  id_here h = rw (lt-ltb i max_path h)
-
-  pub id_behind : max_path ≤ i → 0 ≡ id_at ids i
-  unfolding id_at
-  id_behind h = rw (le-ltb i max_path h)
 
 -- one turn of a loop over it, of which `count` ids there are, i of them passed
 module _ (index links : List ℕ) (n : ℕ) (ids : List ℕ) (count i s : ℕ) where
@@ -140,29 +81,23 @@ module _ (index links : List ℕ) (n : ℕ) (ids : List ℕ) (count i s : ℕ) w
   left j at = walk_by index links n (ids_from ids j (count - j)) at
 
   module _ (h : i < count) {x : ℕ} (is : x ≡ id_at ids i) where
-    turns : left i s ≡ found (step_by index links n s x) none (λ m. left (i + 1) m)
+    turns : left i s ≡ found (step_by index links n s x) None (λ m. left (i + 1) m)
     unfolding walk_by ids_from
     turns =
         let more : count - i ≡ suc (count - (i + 1)) = omega arith in
         let next : suc i ≡ i + 1 = omega arith in
         (λ j. walk_by index links n (ids_from ids i (more j)) s)
-        ∙ (λ j. found (step_by index links n s (sym is j)) none (λ m. walk_by index links n (ids_from ids (next j) (count - (i + 1))) m))
+        ∙ (λ j. found (step_by index links n s (sym is j)) None (λ m. walk_by index links n (ids_from ids (next j) (count - (i + 1))) m))
 
-    pub walk_on : {m : ℕ} → step_by index links n s x ≡ some m → left i s ≡ left (i + 1) m
-    walk_on e = turns ∙ ap (λ (o : Option ℕ). found o none (λ m. left (i + 1) m)) e
+    pub walk_on : {m : ℕ} → step_by index links n s x ≡ Some m → left i s ≡ left (i + 1) m
+    walk_on e = turns ∙ ap (λ (o : Option ℕ). found o None (λ m. left (i + 1) m)) e
 
-    pub walk_stuck : step_by index links n s x ≡ none → left i s ≡ none
-    walk_stuck e = turns ∙ ap (λ (o : Option ℕ). found o none (λ m. left (i + 1) m)) e
+    pub walk_stuck : step_by index links n s x ≡ None → left i s ≡ None
+    walk_stuck e = turns ∙ ap (λ (o : Option ℕ). found o None (λ m. left (i + 1) m)) e
 
-  pub walk_end : count ≤ i → left i s ≡ some s
+  pub walk_end : count ≤ i → left i s ≡ Some s
   unfolding walk_by ids_from
   walk_end g = let none_left : count - i ≡ 0 = omega arith in ap (λ (k : ℕ). walk_by index links n (ids_from ids i k) s) none_left
-
-pub walk_all : (index links : List ℕ) (n : ℕ) (ids : List ℕ) (count s : ℕ)
-    → walk_by index links n (path_in ids count) s ≡ walk_by index links n (ids_from ids 0 (count - 0)) s
-walk_all index links n ids count s =
-    let all : count ≡ count - 0 = omega arith in
-    ap (λ (k : ℕ). walk_by index links n (ids_from ids 0 k) s) all
 
 -- whether a super is among those that are left
 module _ (ids : List ℕ) (count i : ℕ) where
@@ -184,9 +119,6 @@ module _ (ids : List ℕ) (count i : ℕ) where
   unfolding ids_from has
   super_none g = let none_left : count - i ≡ 0 = omega arith in ap (λ (k : ℕ). has 0 (ids_from ids i k)) none_left
 
-pub super_all : (ids : List ℕ) (count : ℕ) → has 0 (path_in ids count) ≡ has 0 (ids_from ids 0 (count - 0))
-super_all ids count = let all : count ≡ count - 0 = omega arith in ap (λ (k : ℕ). has 0 (ids_from ids 0 k)) all
-
 -- ---- the words of a path give it back
 
 pub path_words : (a b c d k : ℕ) → k ≤ 4 → path_in (a ∷ b ∷ c ∷ d ∷ []) k ≡ take k (a ∷ b ∷ c ∷ d ∷ [])
@@ -197,14 +129,6 @@ path_words a b c d (suc (suc zero)) h = refl
 path_words a b c d (suc (suc (suc zero))) h = refl
 path_words a b c d (suc (suc (suc (suc zero)))) h = refl
 path_words a b c d (suc (suc (suc (suc (suc k))))) h = absurd (omega arith)
-
-pub word_behind : (path : List ℕ) (i : ℕ) → length path ≤ i → 0 ≡ get_or path i 0
-word_behind path i h = sym (get_or-eq_default path 0 h)
-
-pub four_words : (path : List ℕ) {a b c d : ℕ} → a ≡ get_or path 0 0 → b ≡ get_or path 1 0 → c ≡ get_or path 2 0 → d ≡ get_or path 3 0
-    → a ∷ b ∷ c ∷ d ∷ [] ≡ ids_of path
-unfolding ids_of
-four_words path pa pb pc pd = rw (pa, pb, pc, pd)
 
 path_is : (path : List ℕ) → length path ≤ 4 → path_in (ids_of path) (length path) ≡ path
 unfolding ids_from id_at ids_of

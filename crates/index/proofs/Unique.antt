@@ -1,9 +1,7 @@
 -- Each public call allows one answer, or one index at exit: the law of `refusals`, applied to each call's own contract. Assumes nothing.
 use mathlib.Core.List.{List}
 use Prim.Native.Nat.{ℕ}
-use Rattle.refusals.proofs.Unique.{One, OneResult, same, told_apart}
-use Rattle.edges.specs.Says.{says_reached}
-use Rattle.edges.proofs.Unique.{back_reached, back_reached_lem}
+use Rattle.refusals.proofs.Unique.{One, OneResult, same}
 use Rattle.index.proofs.add.Reads as add
 use Rattle.index.proofs.of.Reads as of
 use Rattle.index.proofs.child.Reads as child
@@ -19,13 +17,13 @@ pub of_one : OneResult of.Post
 of_one k a x y e f p q = same p q
 
 pub child_one : OneResult child.Post
-child_one k a x y e f p q = told_apart says_reached back_reached back_reached_lem p q
+child_one k a x y e f p q = same p q
 
 pub parent_one : OneResult parent.Post
-parent_one k a x y e f p q = told_apart says_reached back_reached back_reached_lem p q
+parent_one k a x y e f p q = same p q
 
 pub walk_one : OneResult walk.Post
-walk_one k a x y e f p q = told_apart says_reached back_reached back_reached_lem p q
+walk_one k a x y e f p q = same p q
 
 pub ids_of_one : OneResult ids-of.Post
 ids_of_one k a x y e f p q = same p q

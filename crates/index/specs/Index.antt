@@ -1,6 +1,5 @@
 -- An index of edges as a list of words, and what a name means by it. Assumes nothing: these are definitions.
-use Rattle.std.specs.Prelude.{Bool, ◌&&◌, List, [], ◌∷◌, ℕ, zero, suc, ◌+◌, ◌%◌, min, eqb, ltb, get_or, set, replicate}
-use Rattle.std.proofs.Math.Option.{Option, none, some}
+use Rattle.std.specs.Prelude.{Bool, ◌&&◌, List, [], ◌∷◌, ℕ, zero, suc, ◌+◌, ◌%◌, min, eqb, ltb, get_or, set, replicate, Option, None, Some}
 use Rattle.refusals.specs.Answer.{pick}
 use Rattle.edges.specs.declared.Edge.{Edge}
 use Rattle.edges.specs.Edges.{super, max_nodes, max_edges, max_path, found, last_edge, edge_at}
@@ -32,11 +31,11 @@ is_named s x e = eqb e.from s && eqb e.id x
 -- where an edge from s under the name x leads: edge k - 1 if it is such a one, else the next older one of its bucket that is, of
 -- at most n edges
 unfoldable pub among : (index links : List ℕ) (s x n k : ℕ) → Option ℕ
-among index links s x zero k = none
-among index links s x (suc n) zero = none
+among index links s x zero k = None
+among index links s x (suc n) zero = None
 among index links s x (suc n) (suc k) =
     let e = edge_at links (min k last_edge) in
-    pick (is_named s x e) (some e.to) (among index links s x n (older_than index k))
+    pick (is_named s x e) (Some e.to) (among index links s x n (older_than index k))
 
 -- the same from the newest edge of the bucket on
 unfoldable pub child_by : (index links : List ℕ) (n s x : ℕ) → Option ℕ
@@ -44,12 +43,12 @@ child_by index links n s x = among index links s x n (get_or index (bucket s x) 
 
 -- a word says a number, and 1, or none
 abbrev pub less1 : ℕ → Option ℕ
-less1 zero = none
-less1 (suc n) = some n
+less1 zero = None
+less1 (suc n) = Some n
 
 -- the parent of s
 unfoldable pub parent_by : List ℕ → ℕ → Option ℕ
-parent_by index s = pick (ltb s max_nodes) (less1 (get_or index (node_word s) 0)) none
+parent_by index s = pick (ltb s max_nodes) (less1 (get_or index (node_word s) 0)) None
 
 -- a path as four words and a count: the id at i, 0 behind the fourth
 unfoldable pub id_at : List ℕ → ℕ → ℕ
@@ -73,8 +72,8 @@ step_by index links n s x = pick (eqb x super) (parent_by index s) (child_by ind
 
 -- the whole path
 unfoldable pub walk_by : (index links : List ℕ) (n : ℕ) (path : List ℕ) (s : ℕ) → Option ℕ
-walk_by index links n [] s = some s
-walk_by index links n (x ∷ xs) s = found (step_by index links n s x) none (λ m. walk_by index links n xs m)
+walk_by index links n [] s = Some s
+walk_by index links n (x ∷ xs) s = found (step_by index links n s x) None (λ m. walk_by index links n xs m)
 
 -- ---- its edges
 

@@ -5,10 +5,9 @@
 
 ghost use Rattle.std.specs.Prelude.{◌≡◌, ◌<◌, min, get_or};
 ghost use Rattle.edges.specs.Edges.{max_nodes, max_edges, has};
-ghost use Rattle.edges.specs.Says.{says_reached};
 ghost use Rattle.index.specs.Index.{bucket, older_than, is_named, child_by, parent_by, id_at, path_in, ids_of, step_by, walk_by, noted, added, index_of};
 
-use edges::{EDGES, Edge, LONGEST, NODES, Reached, SUPER, WORDS, at_most, edge_at, wide};
+use edges::{EDGES, Edge, LONGEST, NODES, SUPER, WORDS, at_most, edge_at, wide};
 
 // How many words an index has.
 pub const INDEX: usize = 4096;
@@ -26,22 +25,17 @@ fn bucket(s: u16, x: u16) -> usize
 }
 
 // The index with edge i, if a table has room for it.
+#[tactic(auto, unfolding(crate::specs::Index::added))]
 pub fn add(index: &mut [u16; INDEX], i: usize, edge: Edge)
     ensures { index.new ≡ added index.old i edge }
 {
-    if EDGES <= i {
-        return;
+    if i < EDGES && wide(edge.from) < NODES && wide(edge.to) < NODES {
+        note(index, i, edge);
     }
-    if NODES <= wide(edge.from) {
-        return;
-    }
-    if NODES <= wide(edge.to) {
-        return;
-    }
-    note(index, i, edge);
 }
 
 // Its three words: what was newest in the bucket is the next older one.
+#[tactic(auto, unfolding(crate::specs::Index::noted))]
 fn note(index: &mut [u16; INDEX], i: usize, edge: Edge)
     requires { (i < max_edges) × (edge.from < max_nodes) × (edge.to < max_nodes) }
     ensures { index.new ≡ noted index.old i edge }
@@ -56,17 +50,15 @@ fn note(index: &mut [u16; INDEX], i: usize, edge: Edge)
 pub fn of(links: &[u16; WORDS], n: usize) -> [u16; INDEX]
     ensures { result ≡ index_of links.now (min n max_edges) }
 {
-    let end = at_most(n);
     let mut index = [0u16; INDEX];
-    let mut i = 0;
-    while i < end {
+    for i in 0..at_most(n) {
         add(&mut index, i, edge_at(links, i));
-        i += 1;
     }
     index
 }
 
 // The edge of a bucket next older than edge i, and 1.
+#[tactic(auto, unfolding(crate::specs::Index::older_than))]
 fn older(index: &[u16; INDEX], i: usize) -> usize
     ensures { result ≡ older_than index.now i }
 {
@@ -81,46 +73,42 @@ fn older(index: &[u16; INDEX], i: usize) -> usize
 fn is_named(edge: Edge, s: u16, x: u16) -> bool
     ensures { result ≡ is_named s x edge }
 {
-    if edge.from == s { edge.id == x } else { false }
+    edge.from == s && edge.id == x
 }
 
-// Where the last added edge from s under the name x leads, by the index of n edges.
-pub fn child(index: &[u16; INDEX], links: &[u16; WORDS], n: usize, s: u16, x: u16) -> Reached
-    ensures { says_reached result ≡ child_by index.now links.now n s x }
+// Where the last added edge from s under the name x leads, by the index of n edges: after n turns at most.
+pub fn child(index: &[u16; INDEX], links: &[u16; WORDS], n: usize, s: u16, x: u16) -> Option<u16>
+    ensures { result ≡ child_by index.now links.now n s x }
 {
     let mut k = wide(index[bucket(s, x)]);
-    let mut left = n;
-    while 0 < left {
+    for turn in 0..n {
         if k == 0 {
-            return Reached::Nothing;
+            return None;
         }
         let edge = edge_at(links, k - 1);
         if is_named(edge, s, x) {
-            return Reached::At(edge.to);
+            return Some(edge.to);
         }
         k = older(index, k - 1);
-        left -= 1;
     }
-    Reached::Nothing
+    None
 }
 
 // Where the last added edge to s comes from, by the index.
-pub fn parent(index: &[u16; INDEX], s: u16) -> Reached
-    ensures { says_reached result ≡ parent_by index.now s }
+#[tactic(auto, unfolding(crate::specs::Index::parent_by))]
+pub fn parent(index: &[u16; INDEX], s: u16) -> Option<u16>
+    ensures { result ≡ parent_by index.now s }
 {
     if NODES <= wide(s) {
-        return Reached::Nothing;
+        return None;
     }
-    let up = index[OF_NODES + wide(s)];
-    if up == 0 {
-        return Reached::Nothing;
-    }
-    Reached::At(up - 1)
+    index[OF_NODES + wide(s)].checked_sub(1)
 }
 
 // Where one id of a path leads.
-fn step(index: &[u16; INDEX], links: &[u16; WORDS], n: usize, s: u16, x: u16) -> Reached
-    ensures { says_reached result ≡ step_by index.now links.now n s x }
+#[tactic(auto, unfolding(crate::specs::Index::step_by))]
+fn step(index: &[u16; INDEX], links: &[u16; WORDS], n: usize, s: u16, x: u16) -> Option<u16>
+    ensures { result ≡ step_by index.now links.now n s x }
 {
     if x == SUPER {
         parent(index, s)
@@ -130,6 +118,7 @@ fn step(index: &[u16; INDEX], links: &[u16; WORDS], n: usize, s: u16, x: u16) ->
 }
 
 // The four words of a path: its first ids, 0 behind them.
+#[tactic(auto, unfolding(crate::specs::Index::ids_of))]
 pub fn ids_of(path: &[u16]) -> [u16; LONGEST]
     ensures { result ≡ ids_of path.now }
 {
@@ -149,6 +138,7 @@ fn word_at(path: &[u16], i: usize) -> u16
 }
 
 // The id at i of a path in words, 0 behind the fourth.
+#[tactic(auto, unfolding(crate::specs::Index::id_at))]
 fn id_at(ids: &[u16; LONGEST], i: usize) -> u16
     ensures { result ≡ id_at ids.now i }
 {
@@ -163,31 +153,24 @@ pub fn walk(
     s: u16,
     ids: &[u16; LONGEST],
     count: usize,
-) -> Reached
-    ensures { says_reached result ≡ walk_by index.now links.now n (path_in ids.now count) s }
+) -> Option<u16>
+    ensures { result ≡ walk_by index.now links.now n (path_in ids.now count) s }
 {
     let mut at = s;
-    let mut i = 0;
-    while i < count {
-        let Reached::At(next) = step(index, links, n, at, id_at(ids, i)) else {
-            return Reached::Nothing; // the path breaks off
-        };
-        at = next;
-        i += 1;
+    for i in 0..count {
+        at = step(index, links, n, at, id_at(ids, i))?; // where the path breaks off, None
     }
-    Reached::At(at)
+    Some(at)
 }
 
 // Whether a super stands in a path of so many ids.
 pub fn has_super(ids: &[u16; LONGEST], count: usize) -> bool
     ensures { result ≡ has 0 (path_in ids.now count) }
 {
-    let mut i = 0;
-    while i < count {
+    for i in 0..count {
         if id_at(ids, i) == SUPER {
             return true;
         }
-        i += 1;
     }
     false
 }

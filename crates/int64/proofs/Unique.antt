@@ -2,9 +2,8 @@
 use Rattle.std.proofs.Common.{◌≡◌, ℤ, refl}
 use Rattle.refusals.specs.Answer.{Answer, Done, Refused}
 use Rattle.refusals.proofs.Unique.{OneResult, same, told_apart}
-use Rattle.int64.specs.Says.{says}
-use Rattle.int64.specs.declared.Number as N
-use Rattle.int64.specs.declared.Number.TheVariants as number
+use Rattle.refusals.specs.Says.{says}
+use Rattle.refusals.proofs.One.{back, back_says}
 use Rattle.int64.proofs.size.Reads as size
 use Rattle.int64.proofs.of_word.Reads as of_word
 use Rattle.int64.proofs.add.Reads as add
@@ -19,15 +18,6 @@ use Rattle.int64.proofs.xor.Reads as xor
 use Rattle.int64.proofs.low_byte.Reads as low_byte
 use Rattle.int64.proofs.high_byte.Reads as high_byte
 use Rattle.int64.proofs.low_word.Reads as low_word
-
--- the case of `Number` that says this
-abbrev pub back : Answer ℤ → N.Number
-back (Done z) = number.Is z
-back (Refused n) = number.Refused n
-
-pub back_says : (x : N.Number) → back (says x) ≡ x
-back_says (number.Is z) = refl
-back_says (number.Refused n) = refl
 
 pub size_one : OneResult size.Post
 size_one k a x y e f p q = same p q

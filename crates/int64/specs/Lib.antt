@@ -1,3 +1,2 @@
 pub mod Num
-pub mod Says
 pub mod SignAndSize

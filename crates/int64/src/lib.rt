@@ -5,18 +5,11 @@
 ghost use Rattle.std.specs.Prelude.{◌≡◌, ◌+◌, ◌*◌, ◌%◌, ◌^◌, not, ◌+ℤ◌, ◌-ℤ◌, ◌*ℤ◌, neg_ℤ, unsigned_abs};
 ghost use Rattle.std.specs.Int.{w64};
 ghost use Rattle.std.proofs.Common.{to_z, of_z};
+ghost use Rattle.refusals.specs.Says.{says};
 ghost use Rattle.int64.specs.Num.{fit, divided, remaining, shifted, halved, xored, low_byte, high_byte, low_word};
-ghost use Rattle.int64.specs.Says.{says};
 ghost use Rattle.int64.specs.SignAndSize.{below_zero, signed, apart};
 
-use refusals::ARITHMETIC;
-
-// A number, or a refusal.
-#[derive(Clone, Copy)]
-pub enum Number {
-    Is(i64),
-    Refused(u8),
-}
+use refusals::Refusal;
 
 // 2 ^ 63, the size of the smallest i64.
 const HALF: u64 = 9223372036854775808;
@@ -53,37 +46,37 @@ pub fn of_word(w: u64) -> i64
 }
 
 // The number with this sign and this size, where an i64 holds it. All refusing is done here.
-fn join(below: bool, m: u64) -> Number
+fn join(below: bool, m: u64) -> Result<i64, Refusal>
     ensures { says result ≡ fit (signed below m) }
 {
     if below {
         if m == 0 {
-            Number::Is(0)
+            Ok(0)
         } else if m <= HALF {
-            Number::Is(!((m - 1) as i64))
+            Ok(!((m - 1) as i64))
         } else {
-            Number::Refused(ARITHMETIC)
+            Err(Refusal::Arithmetic)
         }
     } else if m < HALF {
-        Number::Is(m as i64)
+        Ok(m as i64)
     } else {
-        Number::Refused(ARITHMETIC)
+        Err(Refusal::Arithmetic)
     }
 }
 
 // x + y, both of one sign.
-fn plus(below: bool, x: u64, y: u64) -> Number
+fn plus(below: bool, x: u64, y: u64) -> Result<i64, Refusal>
     ensures { says result ≡ fit (signed below (x + y)) }
 {
     if x <= u64::MAX - y {
         join(below, x + y)
     } else {
-        Number::Refused(ARITHMETIC)
+        Err(Refusal::Arithmetic)
     }
 }
 
 // x less y, with x's sign.
-fn minus(below: bool, x: u64, y: u64) -> Number
+fn minus(below: bool, x: u64, y: u64) -> Result<i64, Refusal>
     ensures { says result ≡ fit (apart below x y) }
 {
     if y <= x {
@@ -94,7 +87,7 @@ fn minus(below: bool, x: u64, y: u64) -> Number
 }
 
 // The sum of two numbers that are given by sign and size.
-fn sum(na: bool, x: u64, nb: bool, y: u64) -> Number
+fn sum(na: bool, x: u64, nb: bool, y: u64) -> Result<i64, Refusal>
     ensures { says result ≡ fit (signed na x +ℤ signed nb y) }
 {
     if na {
@@ -111,28 +104,28 @@ fn sum(na: bool, x: u64, nb: bool, y: u64) -> Number
 }
 
 // a + b
-pub fn add(a: i64, b: i64) -> Number
+pub fn add(a: i64, b: i64) -> Result<i64, Refusal>
     ensures { says result ≡ fit (a +ℤ b) }
 {
     sum(negative(a), size(a), negative(b), size(b))
 }
 
 // a - b
-pub fn sub(a: i64, b: i64) -> Number
+pub fn sub(a: i64, b: i64) -> Result<i64, Refusal>
     ensures { says result ≡ fit (a -ℤ b) }
 {
     sum(negative(a), size(a), !negative(b), size(b))
 }
 
 // NEG: 0 - a
-pub fn neg(a: i64) -> Number
+pub fn neg(a: i64) -> Result<i64, Refusal>
     ensures { says result ≡ fit (neg_ℤ a) }
 {
     join(!negative(a), size(a))
 }
 
 // x times y, of a given sign.
-fn times(below: bool, x: u64, y: u64) -> Number
+fn times(below: bool, x: u64, y: u64) -> Result<i64, Refusal>
     ensures { says result ≡ fit (signed below (x * y)) }
 {
     if y == 0 {
@@ -140,43 +133,40 @@ fn times(below: bool, x: u64, y: u64) -> Number
     } else if x <= u64::MAX / y {
         join(below, x * y)
     } else {
-        Number::Refused(ARITHMETIC)
+        Err(Refusal::Arithmetic)
     }
 }
 
 // a * b
-pub fn mul(a: i64, b: i64) -> Number
+pub fn mul(a: i64, b: i64) -> Result<i64, Refusal>
     ensures { says result ≡ fit (a *ℤ b) }
 {
     times(negative(a) != negative(b), size(a), size(b))
 }
 
 // a / b, rounded toward zero; 0 where b is 0.
-pub fn div(a: i64, b: i64) -> Number
+pub fn div(a: i64, b: i64) -> Result<i64, Refusal>
     ensures { says result ≡ divided a b }
 {
     let y = size(b);
     if y == 0 {
-        return Number::Is(0);
+        return Ok(0);
     }
     join(negative(a) != negative(b), size(a) / y)
 }
 
 // a % b, with a's sign; 0 where b is 0; refused where a / b is.
-pub fn rem(a: i64, b: i64) -> Number
+pub fn rem(a: i64, b: i64) -> Result<i64, Refusal>
     ensures { says result ≡ remaining a b }
 {
     let y = size(b);
     if y == 0 {
-        return Number::Is(0);
+        return Ok(0);
     }
     let x = size(a);
     let na = negative(a);
-    let q = join(na != negative(b), x / y);
-    match q {
-        Number::Refused(n) => Number::Refused(n),
-        Number::Is(_) => join(na, x % y),
-    }
+    join(na != negative(b), x / y)?;
+    join(na, x % y)
 }
 
 // w doubled n times, each time modulo 2 ^ 64.
@@ -184,41 +174,39 @@ fn doubled(w: u64, n: u64) -> u64
     ensures { result ≡ (w * 2 ^ n) % 2 ^ 64 }
 {
     let mut v = w;
-    let mut i = 0;
-    while i < n {
-        v = std::num::wrapping_add_u64(v, v);
-        i += 1;
+    for i in 0..n {
+        v = v.wrapping_add(v);
     }
     v
 }
 
 // a << k: the low 64 bits, read as signed.
-pub fn shl(a: i64, k: i64) -> Number
+pub fn shl(a: i64, k: i64) -> Result<i64, Refusal>
     ensures { says result ≡ shifted a k }
 {
     if negative(k) {
-        return Number::Refused(ARITHMETIC);
+        return Err(Refusal::Arithmetic);
     }
     let n = size(k);
     if n < BITS {
-        Number::Is(of_word(doubled(word(a), n)))
+        Ok(of_word(doubled(word(a), n)))
     } else {
-        Number::Refused(ARITHMETIC)
+        Err(Refusal::Arithmetic)
     }
 }
 
 // a >> k, rounded down.
-pub fn shr(a: i64, k: i64) -> Number
+pub fn shr(a: i64, k: i64) -> Result<i64, Refusal>
     ensures { says result ≡ halved a k }
 {
     if negative(k) {
-        return Number::Refused(ARITHMETIC);
+        return Err(Refusal::Arithmetic);
     }
     let n = size(k);
     if n < BITS {
-        Number::Is(a >> n)
+        Ok(a >> n)
     } else {
-        Number::Refused(ARITHMETIC)
+        Err(Refusal::Arithmetic)
     }
 }
 

@@ -22,7 +22,8 @@ use Rattle.opcodes.specs.Encode.{low_first, bytes_of, takes, tried, encode_forms
 use Rattle.opcodes.proofs.Manual.{ranges}
 use Rattle.opcodes.proofs.Encoding.{mod_z_below, length_low_first}
 use Rattle.inverse.specs.Inverse.{row, rows_of}
-use Rattle.inverse.specs.Decode.{Instruction, decode_row, decode_of}
+use Rattle.inverse.specs.declared.Instruction.{Instruction}
+use Rattle.inverse.specs.Decode.{decode_row, decode_of}
 use Rattle.inverse.proofs.Inverse.{found_again}
 
 -- ---- the operand

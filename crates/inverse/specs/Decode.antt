@@ -5,11 +5,8 @@ use Rattle.refusals.specs.Answer.{Answer, Done, Refused, pick}
 use Rattle.refusals.specs.Table.{no_row, cut_short}
 use Rattle.little.specs.Little.{number}
 use Rattle.inverse.specs.declared.Row.{Row}
+use Rattle.inverse.specs.declared.Instruction.{Instruction}
 use Rattle.inverse.specs.Inverse.{rows_of}
-
-pub record Instruction : Type 0 where
-  pub row : Row
-  pub operand : ℕ
 
 -- "'none': 6; too few bytes: 7"; bytes behind the operand's are ignored
 abbrev pub decode_row : List Row → List ℕ → Answer Instruction

@@ -1,4 +1,3 @@
--- What a lent pen comes to, what `emit_two` rests on, and that each public call allows one answer.
-pub mod Lending
+-- What `emit_two` rests on, and that each public call allows one answer.
 pub mod Two
 pub mod Unique

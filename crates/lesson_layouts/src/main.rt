@@ -13,9 +13,8 @@
 //             .byte fare
 #![tactic(auto)]
 
-use builder::Built;
-use checker::Checked;
 use descriptors::STDOUT_FILENO;
+use refusals::Fault;
 use symbols::NODES;
 use tape::{BYTE, CONSTANT, END, INSTRUCTION, LABEL, NAME_1, NUMBER, SET_PLACE};
 
@@ -144,13 +143,13 @@ fn build(tape: &[u8], name: &[u8]) {
     let mut work = [0u16; builder::WORK];
     say(b"The build");
     match builder::build(tape, INITIAL, &mut image, &mut list, &mut work) {
-        Built::Refused { number, at } => {
+        Err(fault) => {
             say(b" is ");
-            say_refused(number, at);
+            say_refused(fault);
         }
-        Built::Finished { start, end, .. } => {
+        Ok(built) => {
             say(b" gives ");
-            say_layout(name, list[0], covered(&image, start, end));
+            say_layout(name, list[0], covered(&image, built.start, built.end));
         }
     }
 }
@@ -184,20 +183,20 @@ fn say_layout(name: &[u8], number: i64, bytes: &[u8]) {
 }
 
 // Says what the checker answers.
-fn say_checked(checked: Checked) {
+fn say_checked(answer: Result<(), Fault>) {
     say(b": ");
-    match checked {
-        Checked::Accepted => say(b"accepted"),
-        Checked::Refused { number, at } => say_refused(number, at),
+    match answer {
+        Ok(()) => say(b"accepted"),
+        Err(fault) => say_refused(fault),
     }
 }
 
 // Says a refusal.
-fn say_refused(number: u8, at: usize) {
+fn say_refused(fault: Fault) {
     say(b"refused with ");
-    say_decimal(number as u64);
+    say_decimal(fault.why.number() as u64);
     say(b" at ");
-    say_decimal(at as u64);
+    say_decimal(fault.at as u64);
 }
 
 // Says a number.
@@ -207,10 +206,8 @@ fn say_decimal(n: u64) {
 
 // Says bytes.
 fn say_bytes(bytes: &[u8]) {
-    let mut i = 0;
-    while i < bytes.len() {
-        say_byte(bytes[i]);
-        i += 1;
+    for byte in bytes {
+        say_byte(*byte);
     }
 }
 

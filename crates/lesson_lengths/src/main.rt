@@ -12,13 +12,11 @@
 //             room = 251          or 252
 #![tactic(auto)]
 
-use builder::Built;
 use descriptors::STDOUT_FILENO;
-use symbols::NODES;
+use symbols::{NODES, Numbers};
 use tape::{
     BINARY, BYTE, CONSTANT, CURRENT_PLACE, END, INSTRUCTION, LABEL, NAME_1, NUMBER, SET_PLACE,
 };
-use walk::Numbers;
 
 // The names, each with a number of its own. Names are numbered here as they come on the tape, so that the node of each has the same
 // number.
@@ -71,7 +69,7 @@ fn shorter() {
     let end = write_numbers(&mut space, code, 251);
     let tape = page::cut(&space, end);
     let mut nodes = [0u16; builder::WORK];
-    names::declare(tape, &mut nodes);
+    let _ = names::declare(tape, &mut nodes);
     say(b"A tape with 251 bytes of room.\n");
     tell_shorter(tape, &nodes);
     result(tape);
@@ -97,7 +95,7 @@ fn longer() {
     let end = write_numbers(&mut space, code, 252);
     let tape = page::cut(&space, end);
     let mut nodes = [0u16; builder::WORK];
-    names::declare(tape, &mut nodes);
+    let _ = names::declare(tape, &mut nodes);
     say(b"The same tape with 252 bytes of room.\n");
     tell_longer(tape, &nodes);
     result(tape);
@@ -143,16 +141,15 @@ fn write_numbers(tape: &mut [u8], code: usize, room: u8) -> usize {
 
 // Before pass 1 no name has a number.
 fn nothing() -> Numbers {
-    Numbers {
-        known: [false; NODES],
-        number: [0i64; NODES],
-    }
+    [None; NODES]
 }
 
 // One pass: it reads these numbers, and says those that it gives.
 fn walk<'a>(tape: &'a [u8], nodes: &'a [u16], numbers: Numbers) -> Numbers {
-    let walked = passes::pass_once(tape, nodes, numbers, INITIAL);
-    let after = walked.numbers;
+    let after = match passes::pass_once(tape, nodes, numbers, INITIAL) {
+        Ok(settled) => settled.numbers,
+        Err(_) => nothing(),
+    };
     say_number(b": tap ", after, TAP);
     say_number(b", gate ", after, GATE);
     say_number(b", ticket ", after, TICKET);
@@ -162,13 +159,11 @@ fn walk<'a>(tape: &'a [u8], nodes: &'a [u16], numbers: Numbers) -> Numbers {
 
 // Says the number of a name.
 fn say_number(name: &[u8], numbers: Numbers, node: u8) {
-    let known = numbers.known;
-    let number = numbers.number;
     say(name);
-    if known[node as usize] {
-        return say_place(number[node as usize]);
+    match numbers[node as usize] {
+        Some(place) => say_place(place),
+        None => say(b"unknown"),
     }
-    say(b"unknown");
 }
 
 // Says a place, which is never below 0.
@@ -189,8 +184,8 @@ fn result(tape: &[u8]) {
     let mut list = [0i64; NODES];
     let mut work = [0u16; builder::WORK];
     match builder::build(tape, INITIAL, &mut image, &mut list, &mut work) {
-        Built::Refused { .. } => say(b"The build is refused"),
-        Built::Finished { end, passes, .. } => say_finished(end, passes, &image),
+        Err(_) => say(b"The build is refused"),
+        Ok(built) => say_finished(built.end, built.passes, &image),
     }
     say(b".\n\n");
 }

@@ -26,10 +26,8 @@ fn main() {
 fn run(cases: &[u8], map: &mut [u32]) {
     let count = script::lines(cases);
     let mut pen = pens::begun();
-    let mut i = 0;
-    while i < count {
+    for i in 0..count {
         pen = obey(script::line(cases, i), pen, map);
-        i += 1;
     }
 }
 

@@ -1,6 +1,7 @@
 // Source maps.
-use crate::answers::{of_count, of_entry, of_found, of_outcome};
+use crate::answers::number_of;
 use crate::show::{print, print_all, print_name, tell};
+use refusals::Refusal;
 use source_map::Entry;
 
 // How many words a map has, and one more; how many entries, and how many scopes.
@@ -25,7 +26,7 @@ pub fn memory(line: &[u8]) {
     if MOST < words {
         return tell(line);
     }
-    print_map(script::words_from(line, 3), &mut memory[0..words]);
+    print_map(script::words_from(line, 3), &mut memory[..words]);
 }
 
 // What every call answers on a map with this one entry: SCOPE PLACE LENGTH NAME.
@@ -53,12 +54,12 @@ fn small(scope: u32) -> Entry {
 fn print_map(name: &[u8], map: &mut [u32]) {
     print_name(name);
     let answers = [
-        of_count(source_map::len(map)),
-        entry_at(map, 0),
-        of_found(source_map::address_to_offset(map, 0)),
-        added(map, small(0)),
-        moved(map, 0, 1, 2),
-        of_outcome(source_map::clear(map)),
+        number_of(source_map::len(map)),
+        number_of(source_map::entry_at(map, 0)),
+        number_of(source_map::address_to_offset(map, 0)),
+        number_of(source_map::add(map, small(0))),
+        number_of(source_map::move_offsets(map, 0, 1, 2)),
+        number_of(source_map::clear(map)),
     ];
     print_all(
         b"  len\n  entry 0\n  address\n  add\n  move\n  clear",
@@ -68,20 +69,15 @@ fn print_map(name: &[u8], map: &mut [u32]) {
 
 // Adds entries until the map is full: NAME.
 pub fn fill(line: &[u8], map: &mut [u32]) {
-    print(script::words_from(line, 1), filled(map));
+    print(script::words_from(line, 1), number_of(filled(map)));
 }
 
-// The number of the first add that is refused, of 4,096.
-fn filled(map: &mut [u32]) -> u8 {
-    let mut i = 0;
-    while i < ENTRIES {
-        let number = added(map, wide(i));
-        if number != 0 {
-            return number;
-        }
-        i += 1;
+// Adds 4,096 entries, or as many as there is room for.
+fn filled(map: &mut [u32]) -> Result<(), Refusal> {
+    for i in 0..ENTRIES {
+        source_map::add(map, wide(i))?;
     }
-    0
+    Ok(())
 }
 
 // The entry of that number: one of 16 bytes behind the other, the scopes in turn.
@@ -94,26 +90,11 @@ fn wide(i: u32) -> Entry {
     }
 }
 
-// The number of an entry more.
-fn added(map: &mut [u32], entry: Entry) -> u8 {
-    of_outcome(source_map::add(map, entry))
-}
-
-// The number of an entry.
-fn entry_at(map: &[u32], index: usize) -> u8 {
-    of_entry(source_map::entry_at(map, index))
-}
-
-// The number of the entries of one scope moved to another.
-fn moved(map: &mut [u32], from: u32, to: u32, span: u32) -> u8 {
-    of_outcome(source_map::move_offsets(map, from, to, span))
-}
-
 // An entry more: SCOPE NAME.
 pub fn add(line: &[u8], map: &mut [u32]) {
     print(
         script::words_from(line, 2),
-        added(map, small(number(line, 1))),
+        number_of(source_map::add(map, small(number(line, 1)))),
     );
 }
 
@@ -121,12 +102,12 @@ pub fn add(line: &[u8], map: &mut [u32]) {
 pub fn at(line: &[u8], map: &[u32]) {
     print(
         script::words_from(line, 2),
-        entry_at(map, script::number(line, 1)),
+        number_of(source_map::entry_at(map, script::number(line, 1))),
     );
 }
 
 // The entries of one scope moved to another: FROM TO NAME.
 pub fn shift(line: &[u8], map: &mut [u32]) {
-    let answer = moved(map, number(line, 1), number(line, 2), 0);
-    print(script::words_from(line, 3), answer);
+    let answer = source_map::move_offsets(map, number(line, 1), number(line, 2), 0);
+    print(script::words_from(line, 3), number_of(answer));
 }

@@ -1,5 +1,5 @@
 // Pens and images.
-use crate::answers::{of_drawn, of_new, of_number, of_outcome, of_place, of_range};
+use crate::answers::number_of;
 use crate::show::{print, print_all, print_name};
 use pen::Pen;
 
@@ -38,25 +38,25 @@ pub fn made(line: &[u8]) -> Pen {
 // A new pen: INITIAL TARGET NAME.
 pub fn new(line: &[u8]) {
     let made = Pen::new(script::number(line, 1), script::number(line, 2));
-    print(script::words_from(line, 3), of_new(made));
+    print(script::words_from(line, 3), number_of(made));
 }
 
 // A pen moved: PLACE NAME.
 pub fn set_pc(line: &[u8], pen: Pen) {
     let drawn = segment::set_pc(pen, script::number(line, 1));
-    print(script::words_from(line, 2), of_drawn(drawn));
+    print(script::words_from(line, 2), number_of(drawn));
 }
 
 // What every call answers on one pen; the emit, of one byte, is the last: NAME.
 pub fn calls(line: &[u8], pen: Pen) {
     print_name(script::words_from(line, 1));
     let answers = [
-        of_drawn(segment::reset(pen)),
-        of_place(pen.pc()),
-        of_drawn(segment::set_pc(pen, 0)),
-        of_number(pen.target_pc()),
-        of_range(pen.range()),
-        of_number(pen.target_offset()),
+        number_of(segment::reset(pen)),
+        number_of(pen.pc()),
+        number_of(segment::set_pc(pen, 0)),
+        number_of(pen.target_pc()),
+        number_of(pen.range()),
+        number_of(pen.target_offset()),
         handed(pen, SIZE),
         emitted(pen, SIZE),
     ];
@@ -80,7 +80,7 @@ fn emitted(pen: Pen, size: usize) -> u8 {
     if MOST < size {
         return TOO_LARGE;
     }
-    of_drawn(segment::emit(pen, &mut image[0..size], b"1"))
+    number_of(segment::emit(pen, &mut image[..size], b"1"))
 }
 
 // The bytes of a range: SIZE NAME.
@@ -97,7 +97,7 @@ fn handed(pen: Pen, size: usize) -> u8 {
     if MOST < size {
         return TOO_LARGE;
     }
-    of_outcome(pen.range_data_answer(&image[0..size]))
+    number_of(pen.range_data_answer(&image[..size]))
 }
 
 // Two runs of one byte: INITIAL PLACE SIZE NAME.
@@ -114,5 +114,5 @@ fn both(initial: usize, place: usize, size: usize) -> u8 {
     if MOST < size {
         return TOO_LARGE;
     }
-    of_range(lent_pen::emit_two(initial, &mut image[0..size], b"1", place, b"2"))
+    number_of(lent_pen::emit_two(initial, &mut image[..size], b"1", place, b"2"))
 }

@@ -11,10 +11,8 @@ pub fn print(question: &[u8], number: u8) {
 
 // Prints questions, one in each line, and the numbers of their answers.
 pub fn print_all(questions: &[u8], numbers: &[u8]) {
-    let mut i = 0;
-    while i < numbers.len() {
-        print(script::line(questions, i), numbers[i]);
-        i += 1;
+    for (i, number) in numbers.iter().enumerate() {
+        print(script::line(questions, i), *number);
     }
 }
 

@@ -51,10 +51,8 @@ fn put_bytes(text: &mut [u8], from: usize, bytes: &[u8]) -> usize
     ensures { (result, text.new) ≡ laid text.old from (spaced bytes.now) }
 {
     let mut at = from;
-    let mut i = 0;
-    while i < bytes.len() {
-        at = put_byte(text, at, bytes[i]);
-        i += 1;
+    for byte in bytes {
+        at = put_byte(text, at, *byte);
     }
     at
 }

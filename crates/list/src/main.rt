@@ -3,7 +3,6 @@
 #![tactic(auto)]
 
 use descriptors::{STDIN_FILENO, STDOUT_FILENO};
-use listing::Listed;
 
 // Where a tape is built.
 const INITIAL: usize = 0x2000;
@@ -21,9 +20,8 @@ fn main() {
 // Reads a tape, lists it, and writes the text at once.
 fn run(tape: &mut [u8], text: &mut [u8]) {
     let length = io::read_full(STDIN_FILENO, tape);
-    match listing::list(&tape[..length], INITIAL, text) {
-        Listed::Refused(_) => (),
-        Listed::Text(end) => print(page::cut(text, end)),
+    if let Ok(end) = listing::list(&tape[..length], INITIAL, text) {
+        print(page::cut(text, end));
     }
 }
 

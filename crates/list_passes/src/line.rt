@@ -20,10 +20,10 @@ const BLANKS: usize = 7;
 // How many digits a number in decimal has at most.
 const DECIMALS: usize = 20;
 
-// The units of the first of sixteen hexadecimal digits, and of the first of four.
-const FIRST: u64 = 0x1000_0000_0000_0000;
+// How many hexadecimal digits a number has at most, and at least.
+const DIGITS: usize = 16;
 
-const FOURTH: u64 = 0x1000;
+const LEAST: usize = 4;
 
 // Puts a text as a cell: at the right of its width, and behind one blank at least.
 pub fn put_cell(line: &mut [u8], at: usize, text: &[u8]) -> usize {
@@ -72,18 +72,11 @@ fn put_sign(line: &mut [u8], z: i64) -> usize {
 // Puts the hexadecimal digits of a number, four at least.
 fn put_digits(line: &mut [u8], from: usize, n: u64) -> usize {
     let mut at = from;
-    let mut unit = FIRST;
-    while unit > 0 {
-        at = put_digit(line, at, n / unit, unit);
-        unit /= 16;
+    for i in (0..DIGITS).rev() {
+        let quotient = n >> (4 * i);
+        if i < LEAST || quotient != 0 {
+            at = page::put_all(line, at, &[hexadecimal::digit((quotient % 16) as u8)]);
+        }
     }
     at
-}
-
-// Puts the last digit of a quotient by this unit. Where the quotient is 0, only if the digit is one of the last four.
-fn put_digit(line: &mut [u8], at: usize, quotient: u64, unit: u64) -> usize {
-    if quotient == 0 && FOURTH < unit {
-        return at;
-    }
-    page::put_all(line, at, &[hexadecimal::digit((quotient % 16) as u8)])
 }

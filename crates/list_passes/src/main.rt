@@ -8,11 +8,10 @@ mod line;
 
 use descriptors::{STDIN_FILENO, STDOUT_FILENO};
 use form::LONGEST;
-use passes::{LIMIT, Passes};
-use refusals::NOT_SETTLED;
-use symbols::{Data, NODES};
+use passes::LIMIT;
+use refusals::{Fault, Refusal};
+use symbols::{NODES, Numbers};
 use tape::LABEL;
-use walk::Numbers;
 
 // Where a tape is built.
 const INITIAL: usize = 0x2000;
@@ -33,20 +32,18 @@ fn main() {
 // Lays the tape out, and shows as many passes as there were until one gave back what it read.
 fn show(tape: &[u8]) {
     let mut nodes = [0u16; LONGEST];
-    let settled = layout::lay_out(tape, INITIAL, &mut nodes);
-    let answer = settled.answer;
-    match answer {
-        Passes::After(count) => show_passes(tape, &nodes, count),
-        Passes::Refused { number, at } => show_refused(tape, &nodes, number, at),
+    match layout::lay_out(tape, INITIAL, &mut nodes) {
+        Ok(settled) => show_passes(tape, &nodes, settled.passes),
+        Err(fault) => show_refused(tape, &nodes, fault),
     }
 }
 
 // The refused line; before it, where no pass gave back what it read, all of them.
-fn show_refused<'a>(tape: &'a [u8], nodes: &'a [u16], number: u8, at: usize) {
-    if number == NOT_SETTLED {
+fn show_refused<'a>(tape: &'a [u8], nodes: &'a [u16], fault: Fault) {
+    if fault.why == Refusal::NotSettled {
         show_passes(tape, nodes, LIMIT);
     }
-    print_refused(number, at);
+    print_refused(fault);
 }
 
 // The head and the rows of so many passes.
@@ -67,73 +64,54 @@ fn make_passes<'a>(
     number: &mut [i64],
 ) {
     let mut numbers = nothing();
-    let mut pass: usize = 0;
-    while pass < count {
-        let walked = passes::pass_once(tape, nodes, numbers, INITIAL);
-        numbers = walked.numbers;
+    for pass in 0..count {
+        let Ok(settled) = passes::pass_once(tape, nodes, numbers, INITIAL) else {
+            return;
+        };
+        numbers = settled.numbers;
         keep_pass(known, number, pass, numbers);
-        pass += 1;
     }
 }
 
 // Before the first pass no name has a number.
 fn nothing() -> Numbers {
-    Numbers {
-        known: [false; NODES],
-        number: [0i64; NODES],
-    }
+    [None; NODES]
 }
 
 // Keeps the numbers that a pass gave.
 fn keep_pass(known: &mut [bool], number: &mut [i64], pass: usize, numbers: Numbers) {
-    let mut node: usize = 0;
-    while node < NODES {
+    for node in 0..NODES {
         keep(
             known,
             number,
             cell(pass, node),
-            numbers.known[node],
-            numbers.number[node],
+            numbers[node].is_some(),
+            numbers[node].unwrap_or(0),
         );
-        node += 1;
     }
 }
 
 // Keeps one number, or that there is none.
 fn keep(known: &mut [bool], number: &mut [i64], at: usize, is_known: bool, z: i64) {
-    if known.len() <= at {
-        return;
+    if at < known.len() && at < number.len() {
+        known[at] = is_known;
+        number[at] = z;
     }
-    if number.len() <= at {
-        return;
-    }
-    known[at] = is_known;
-    number[at] = z;
 }
 
 // Where the number stands that a pass gave a node; behind all of them where there is no such pass or node.
 fn cell(pass: usize, node: usize) -> usize {
-    if LIMIT <= pass {
-        return CELLS;
+    if pass < LIMIT && node < NODES {
+        return NODES * pass + node;
     }
-    if NODES <= node {
-        return CELLS;
-    }
-    NODES * pass + node
+    CELLS
 }
 
 // The number that was kept there.
-fn kept(known: &[bool], number: &[i64], at: usize) -> Data {
-    if known.len() <= at {
-        return Data::Unresolved;
-    }
-    if number.len() <= at {
-        return Data::Unresolved;
-    }
-    if known[at] {
-        return Data::Number(number[at]);
-    }
-    Data::Unresolved
+fn kept(known: &[bool], number: &[i64], at: usize) -> Option<i64> {
+    let is_known = *known.get(at)?;
+    let z = *number.get(at)?;
+    is_known.then_some(z)
 }
 
 // Prints the head, which numbers the passes.
@@ -147,10 +125,8 @@ fn print_head(count: usize) {
 // Puts the numbers from 1 on.
 fn put_counts(line: &mut [u8], from: usize, count: usize) -> usize {
     let mut at = from;
-    let mut pass: usize = 0;
-    while pass < count {
-        pass += 1;
-        at = line::put_decimal(line, at, pass as u64);
+    for pass in 0..count {
+        at = line::put_decimal(line, at, pass as u64 + 1);
     }
     at
 }
@@ -159,6 +135,7 @@ fn put_counts(line: &mut [u8], from: usize, count: usize) -> usize {
 fn print_rows(tape: &[u8], count: usize, known: &[bool], number: &[i64]) {
     let mut names: usize = 0;
     let mut at: usize = 0;
+    // A record's length is the step of this walk: no index is counted.
     while at < tape.len() {
         let rec = tape::record(tape, at);
         if form::is_last(rec) {
@@ -201,19 +178,17 @@ fn put_numbers(
     number: &[i64],
 ) -> usize {
     let mut at = from;
-    let mut pass: usize = 0;
-    while pass < count {
+    for pass in 0..count {
         at = put_number(line, at, kept(known, number, cell(pass, node)));
-        pass += 1;
     }
     at
 }
 
 // Puts a number, or a stroke where there is none.
-fn put_number(line: &mut [u8], at: usize, number: Data) -> usize {
+fn put_number(line: &mut [u8], at: usize, number: Option<i64>) -> usize {
     match number {
-        Data::Number(z) => line::put_hex(line, at, z),
-        Data::Unresolved => line::put_cell(line, at, b"-"),
+        Some(z) => line::put_hex(line, at, z),
+        None => line::put_cell(line, at, b"-"),
     }
 }
 
@@ -224,11 +199,11 @@ fn print_line(line: &mut [u8], length: usize) {
 }
 
 // Prints the refused line.
-fn print_refused(number: u8, at: usize) {
+fn print_refused(fault: Fault) {
     print(b"refused ");
-    io::print_decimal(STDOUT_FILENO, number as u64);
+    io::print_decimal(STDOUT_FILENO, fault.why.number() as u64);
     print(b" at ");
-    io::print_decimal(STDOUT_FILENO, at as u64);
+    io::print_decimal(STDOUT_FILENO, fault.at as u64);
     print(b"\n");
 }
 

@@ -1,6 +1,6 @@
--- A listing by what is noted is the listing by what query finds; and numbers that stand in arrays give the same listing. Assumes nothing.
+-- A listing by what is noted is the listing by what query finds; and numbers that stand in an array give the same listing. Assumes nothing.
+use Rattle.std.specs.Prelude.{Option}
 use mathlib.Core.List.{List, [], ◌∷◌, ◌++◌}
-use mathlib.Core.Option.{Option}
 use mathlib.Core.Path.{◌≡◌, refl, sym, ap, ◌∙◌}
 use Prim.Native.Nat.{ℕ, suc, ◌≤◌, ◌<◌}
 use native.Mathlib.Omega.{arith}
@@ -16,7 +16,6 @@ use Rattle.form.specs.Statements.{Statement, is_followed, statements}
 use Rattle.evaluator.specs.Expression.{Value, Unresolved}
 use Rattle.names.specs.Names.{names_of, declare_of, notes_after}
 use Rattle.names.proofs.Kept.{notes_are}
-use Rattle.walk.specs.declared.Numbers.{Numbers}
 use Rattle.walk.specs.declared.Walk.{Walk}
 use Rattle.walk.specs.Walk.{Origin, origin, begin, here, step}
 use Rattle.walk.specs.Values.{Values, numbered, number_of, declarations, value_at, step_at}
@@ -68,15 +67,15 @@ module _ (r s : Reads) where
           (mapped (finished s xs o n L) (tries_alike r s builder (numbered L) (start o) xs h i))
       go (Fault n at) = refl
 
--- ---- numbers that stand in arrays
+-- ---- numbers that stand in an array
 
 module _ (r : Reads) (xs : List Statement) (o : Origin) where
-  -- the listing after n passes, with numbers that stand in arrays, by node
-  listed_in : ℕ → Numbers → AnswerAt (List ℕ)
+  -- the listing after n passes, with numbers that stand in an array, by node
+  listed_in : ℕ → List (Option ℤ) → AnswerAt (List ℕ)
   listed_in n numbers =
       mapped
-      (λ t. lines r (numbers_in numbers.known numbers.number) (begin o) xs ++ last_line t.page.pen.start t.page.pen.end n)
-      (tries r builder (numbers_in numbers.known numbers.number) (start o) xs)
+      (λ t. lines r (numbers_in numbers) (begin o) xs ++ last_line t.page.pen.start t.page.pen.end n)
+      (tries r builder (numbers_in numbers) (start o) xs)
 
   listed_arrays : declarations xs < 1024 → (n : ℕ) (L : Values) → settled r xs o ≡ Fine (n, L)
       → listed_in n (numbers_by L) ≡ listed_with r xs o (n, L)
@@ -93,7 +92,7 @@ module _ (r : Reads) (xs : List Statement) (o : Origin) where
       go (Fine t) = refl
       go (Fault m at) = refl
 
-  listed_settled : declarations xs < 1024 → {n : ℕ} {numbers : Numbers}
+  listed_settled : declarations xs < 1024 → {n : ℕ} {numbers : List (Option ℤ)}
       → (L : Values) × (settled r xs o ≡ Fine (n, L)) × (numbers ≡ numbers_by L) → listed_in n numbers ≡ listed_by r xs o
   unfolding listed_by
   listed_settled few {n} (L, e, is) =
@@ -103,7 +102,7 @@ module _ (r : Reads) (xs : List Statement) (o : Origin) where
 
 -- the listing behind the passes is that with their numbers
 module _ (tape nodes : List ℕ) (initial : ℕ) (fits : length tape ≤ max_tape) (low : initial ≤ size) where
-  listed_after : declarations (statements tape) < 1024 → {n : ℕ} {numbers : Numbers}
+  listed_after : declarations (statements tape) < 1024 → {n : ℕ} {numbers : List (Option ℤ)}
       → (L : Values) × (settled (reads_noted tape nodes) (statements tape) (origin initial) ≡ Fine (n, L)) × (numbers ≡ numbers_by L)
       → recorded tape nodes numbers n initial ≡ listed_by (reads_noted tape nodes) (statements tape) (origin initial)
   unfolding recorded tried_all listed_in
@@ -129,7 +128,7 @@ module _ (tape : List ℕ) (o : Origin) where
 
 module _ (tape nodes : List ℕ) (initial : ℕ) (low : initial ≤ size) (long : length nodes ≡ max_tape) where
   -- one that settled: its numbers give the lines
-  pub laid_listed : length tape ≤ max_tape → {n : ℕ} {numbers : Numbers}
+  pub laid_listed : length tape ≤ max_tape → {n : ℕ} {numbers : List (Option ℤ)}
       → (L : Values) × (layout_of tape initial (length nodes) ≡ Fine (n, L)) × (numbers ≡ numbers_by L)
       → {nodes' : List ℕ} → nodes' ≡ noted_of tape initial nodes → recorded tape nodes' numbers n initial ≡ listed tape (origin initial)
   laid_listed fits (L, laid, is) {nodes'} noted =

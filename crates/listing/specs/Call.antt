@@ -7,8 +7,6 @@ use Rattle.refusals.specs.Table.{argument}
 use Rattle.pen.specs.Pens.{size}
 use Rattle.form.specs.Form.{max_tape}
 use Rattle.walk.specs.Walk.{origin}
-use Rattle.listing.specs.declared.Listed as L
-use Rattle.listing.specs.declared.Listed.TheVariants as cases
 use Rattle.record_lines.specs.Records.{said}
 use Rattle.listing.specs.Listing.{listed}
 
@@ -28,12 +26,7 @@ listing tape initial = said (pick (is_allowed (length tape) initial) (listed tap
 abbrev pub text_places : ℕ
 text_places = 1310740
 
--- how long the text is
-abbrev pub says_listed : L.Listed → Answer ℕ
-says_listed (cases.Text length) = Done length
-says_listed (cases.Refused number) = Refused number
-
--- the text stands at the buffer's beginning, and what is behind it is as it was; a buffer of another length is a 1 and is left alone
+-- how long the text is. It stands at the buffer's beginning, and what is behind it is as it was; a buffer of another length is a 1 and is left alone
 unfoldable pub list_of : List ℕ → ℕ → List ℕ → Answer ℕ × List ℕ
 list_of tape initial text =
     pick (eqb (length text) text_places)

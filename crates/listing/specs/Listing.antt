@@ -1,7 +1,6 @@
 -- The listing of a tape: a line for each record that writes, in tape order, and a last one; or the refusal of its build. Assumes
 -- nothing: these are definitions.
-use Rattle.std.specs.Prelude.{ℕ, List, ◌++◌, ℤ}
-use Rattle.std.proofs.Math.Option.{Option}
+use Rattle.std.specs.Prelude.{ℕ, List, ◌++◌, ℤ, Option}
 use Rattle.refusals.specs.AnswerAt.{AnswerAt, mapped, and_then}
 use Rattle.form.specs.Statements.{Statement, statements}
 use Rattle.evaluator.specs.Expression.{Value}

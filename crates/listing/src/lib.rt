@@ -3,39 +3,30 @@
 #![tactic(auto)]
 
 ghost use Rattle.std.specs.Prelude.{◌≡◌, ◌≤◌, length};
+ghost use Rattle.refusals.specs.Says.{says};
 ghost use Rattle.pen.specs.Pens.{size};
 ghost use Rattle.page.specs.Page.{laid};
 ghost use Rattle.form.specs.Form.{max_tape};
 ghost use Rattle.walk.specs.Walk.{origin};
 ghost use Rattle.record_lines.specs.Records.{said};
 ghost use Rattle.listing.specs.Listing.{listed};
-ghost use Rattle.listing.specs.Call.{listing, list_of, says_listed};
+ghost use Rattle.listing.specs.Call.{listing, list_of};
 
 use form::LONGEST;
-use passes::Passes;
-use refusals::ARGUMENT;
+use pen::SIZE;
+use refusals::Refusal;
 
 // How long the text is that is lent: twenty bytes for each byte of a tape, and twenty for the last line.
 pub const TEXT: usize = 1310740;
 
-// How many bytes an image has; also the greatest place, and how many offsets a tape has.
-const SIZE: usize = 65536;
-
-// How long the text is, or the refusal.
-#[derive(Clone, Copy)]
-pub enum Listed {
-    Text(usize),
-    Refused(u8),
-}
-
-// Lists a tape that is built from an initial place, into a lent text.
-pub fn list(tape: &[u8], initial: usize, text: &mut [u8]) -> Listed
-    ensures { (says_listed result, text.new) ≡ list_of tape.now initial text.old }
+// Lists a tape that is built from an initial place, into a lent text; how long that is.
+pub fn list(tape: &[u8], initial: usize, text: &mut [u8]) -> Result<usize, Refusal>
+    ensures { (says result, text.new) ≡ list_of tape.now initial text.old }
 {
     if text.len() != TEXT {
-        return Listed::Refused(ARGUMENT);
+        return Err(Refusal::Argument);
     }
-    Listed::Text(fill(tape, initial, text))
+    Ok(fill(tape, initial, text))
 }
 
 // Fills a text; how much of it.
@@ -43,12 +34,12 @@ fn fill(tape: &[u8], initial: usize, text: &mut [u8]) -> usize
     ensures { (result, text.new) ≡ laid text.old 0 (listing tape.now initial) }
 {
     if LONGEST < tape.len() {
-        return lines::put_refused(text, 0, ARGUMENT, 0);
+        return lines::put_refused(text, 0, Refusal::Argument.number(), 0);
     }
     if SIZE < initial {
-        return lines::put_refused(text, 0, ARGUMENT, 0);
+        return lines::put_refused(text, 0, Refusal::Argument.number(), 0);
     }
-    let mut nodes = [0u16; SIZE];
+    let mut nodes = [0u16; LONGEST];
     fill_laid(tape, initial, text, &mut nodes)
 }
 
@@ -57,13 +48,15 @@ fn fill_laid(tape: &[u8], initial: usize, text: &mut [u8], nodes: &mut [u16]) ->
     requires { (length tape.now ≤ max_tape) × (initial ≤ size) × (length nodes.old ≡ max_tape) }
     ensures { (result, text.new) ≡ laid text.old 0 (said (listed tape.now (origin initial))) }
 {
-    let settled = layout::lay_out(tape, initial, nodes);
-    let answer = settled.answer;
-    match answer {
-        Passes::Refused { number, at } => lines::put_refused(text, 0, number, at),
-        Passes::After(n) => {
-            let numbers = settled.numbers;
-            record_lines::put_records(tape, nodes, numbers, n, initial, text)
-        }
+    match layout::lay_out(tape, initial, nodes) {
+        Err(fault) => lines::put_refused(text, 0, fault.why.number(), fault.at),
+        Ok(settled) => record_lines::put_records(
+            tape,
+            nodes,
+            settled.numbers,
+            settled.passes,
+            initial,
+            text,
+        ),
     }
 }

@@ -4,10 +4,11 @@
 #![tactic(auto)]
 
 mod limits;
-mod part;
 mod show;
 
-use descriptors::STDIN_FILENO;
+use cases::Tape;
+use console::Console;
+use std::io;
 
 // Room for the cases; for a tape that is one byte too long; and for a text that is.
 const CASES: usize = 65536;
@@ -16,51 +17,24 @@ const TAPE: usize = 65537;
 
 const TEXT: usize = 1310741;
 
-// Makes room.
-fn main() {
-    let mut cases = [0u8; CASES];
-    let mut tape = [0u8; TAPE];
-    let mut text = [0u8; TEXT];
-    read(&mut cases, &mut tape, &mut text);
-}
-
-// Reads the cases.
-fn read(cases: &mut [u8], tape: &mut [u8], text: &mut [u8]) {
-    let length = io::read_full(STDIN_FILENO, cases);
-    run(&cases[..length], tape, text);
-}
-
-// Goes from line to line.
-fn run(cases: &[u8], tape: &mut [u8], text: &mut [u8]) {
-    let count = script::lines(cases);
-    let mut end = 0;
-    let mut i = 0;
-    while i < count {
-        end = obey(script::line(cases, i), tape, end, text);
-        i += 1;
-    }
-}
-
-// Makes the tape, or lists it; gives its length.
-fn obey(line: &[u8], tape: &mut [u8], length: usize, text: &mut [u8]) -> usize {
-    if script_tapes::is_tape(line) {
-        return script_tapes::put_tape(tape, length, line);
-    }
-    ask(line, page::cut(tape, length), text);
-    length
-}
-
 // Lists the tape as a line says.
-fn ask(line: &[u8], tape: &[u8], text: &mut [u8]) {
-    if script::is_silent(line) {
-        return;
-    }
+fn ask(rt: &impl Print, line: &[u8], tape: &[u8], text: &mut [u8]) -> io::Result<()> {
     match script::command(line, b"line lines sized left ends") {
-        0 => show::line(line, tape, text),
-        1 => show::lines(line, tape, text),
-        2 => limits::sized(line, tape, text),
-        3 => limits::left(line, tape, text),
-        4 => limits::ends(line, tape, text),
-        _ => show::tell(line),
+        0 => show::line(rt, line, tape, text),
+        1 => show::lines(rt, line, tape, text),
+        2 => limits::sized(rt, line, tape, text),
+        3 => limits::left(rt, line, tape, text),
+        4 => limits::ends(rt, line, tape, text),
+        _ => cases::tell(rt, line),
     }
+}
+
+fn main() {
+    let mut text = [0u8; TEXT];
+    let _ = cases::ask_each(
+        &Console,
+        &mut [0u8; CASES],
+        &mut Tape::<TAPE>::new(),
+        |rt, line, tape| ask(rt, line, tape, &mut text),
+    );
 }

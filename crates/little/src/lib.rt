@@ -4,44 +4,40 @@
 ghost use Rattle.std.specs.Prelude.{◌≡◌, get_or, take};
 ghost use Rattle.std.specs.Int.{w64};
 ghost use Rattle.std.proofs.Common.{to_z};
-ghost use Rattle.little.specs.Little.{Byte, number, number_at};
+ghost use Rattle.little.specs.Little.{number, number_at};
 
-// The byte at i, or 0.
-fn byte(s: &[u8], i: usize) -> u64
-    ensures { Byte result (get_or s.now i 0) }
+// The byte at an offset.
+pub fn u8_at(s: &[u8], at: usize) -> u8
+    ensures { result ≡ get_or s.now at 0 }
 {
-    if i < s.len() { s[i] as u64 } else { 0 }
+    s.get(at).copied().unwrap_or(0)
 }
 
 // The number of the first two bytes.
 fn first_two(s: &[u8]) -> u16
     ensures { result ≡ number (take 2 s.now) }
 {
-    (byte(s, 0) + 0x100 * byte(s, 1)) as u16
+    u16::from_le_bytes([u8_at(s, 0), u8_at(s, 1)])
 }
 
 // The number of the first eight bytes.
 fn first_eight(s: &[u8]) -> u64
     ensures { result ≡ number (take 8 s.now) }
 {
-    byte(s, 0)
-        + 0x100 * byte(s, 1)
-        + 0x1_0000 * byte(s, 2)
-        + 0x100_0000 * byte(s, 3)
-        + 0x1_0000_0000 * byte(s, 4)
-        + 0x100_0000_0000 * byte(s, 5)
-        + 0x1_0000_0000_0000 * byte(s, 6)
-        + 0x100_0000_0000_0000 * byte(s, 7)
-}
-
-// The byte at an offset.
-pub fn u8_at(s: &[u8], at: usize) -> u8
-    ensures { result ≡ get_or s.now at 0 }
-{
-    if at < s.len() { s[at] } else { 0 }
+    u64::from_le_bytes([
+        u8_at(s, 0),
+        u8_at(s, 1),
+        u8_at(s, 2),
+        u8_at(s, 3),
+        u8_at(s, 4),
+        u8_at(s, 5),
+        u8_at(s, 6),
+        u8_at(s, 7),
+    ])
 }
 
 // The 16-bit number at an offset.
+#[tactic(auto, using(crate::proofs::Laws::number_part, crate::proofs::Laws::number_past))]
 pub fn u16_at(s: &[u8], at: usize) -> u16
     ensures { result ≡ number_at 2 s.now at }
 {
@@ -53,6 +49,7 @@ pub fn u16_at(s: &[u8], at: usize) -> u16
 }
 
 // The 64-bit number at an offset.
+#[tactic(auto, using(crate::proofs::Laws::number_part, crate::proofs::Laws::number_past))]
 pub fn u64_at(s: &[u8], at: usize) -> u64
     ensures { result ≡ number_at 8 s.now at }
 {

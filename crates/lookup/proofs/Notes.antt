@@ -1,21 +1,16 @@
 -- Notes of names: what is noted at one record, and what is noted, record by record, of a whole tape. Assumes nothing.
 use mathlib.Core.Bool.{Bool, true, false}
 use mathlib.Core.List.{List, [], ◌∷◌}
-use mathlib.Core.Option.{Option}
 use mathlib.Core.Path.{◌≡◌, refl, sym, ap, ◌∙◌, subst}
 use Prim.Native.Nat.{ℕ, zero, suc, ◌+◌, ◌-◌, ◌≤◌, ◌<◌}
 use native.Mathlib.Decide.{dec_lt}
 use native.Mathlib.Nat.{add-zero, add-suc}
 use native.Mathlib.Omega.{arith}
 use lib.ListN.{length, get_or, set, length-set}
-use lib.Seq.{set_out, get_or-set_same, get_or-set_other}
-use borrow.Author.Tests.{lt-ltb, le-ltb}
+use lib.Seq.{get_or-set_same, get_or-set_other}
 use Rattle.refusals.proofs.Never.{never}
-use Rattle.refusals.specs.Answer.{Answer, pick}
+use Rattle.refusals.specs.Answer.{pick}
 use Rattle.refusals.specs.AnswerAt.{AnswerAt, part}
-use Rattle.scopes.specs.declared.Found as F
-use Rattle.scopes.specs.declared.Found.TheVariants as found
-use Rattle.scopes.specs.Says.{says_found}
 use Rattle.tape.specs.Kinds.{is_name}
 use Rattle.tape.specs.Record.{bytes_at}
 use Rattle.tape.proofs.Records.{record_past}
@@ -67,31 +62,10 @@ some_inside tape at h =
 
 -- ---- what is noted
 
-module _ (n : ℕ) {r : F.Found} (is : r ≡ found.At n) where
-  pub noted_node : n < 1024 → n + 1 ≡ noted (says_found r)
-  noted_node h = sym (ap (λ (x : F.Found). noted (says_found x)) is ∙ rw (lt-ltb n 1024 h))
-
-  pub noted_beyond : 1024 ≤ n → 0 ≡ noted (says_found r)
-  noted_beyond h = sym (ap (λ (x : F.Found). noted (says_found x)) is ∙ rw (le-ltb n 1024 h))
-
 module _ (nodes : List ℕ) (at : ℕ) (rec links : List ℕ) (edges scope : ℕ) {k : ℕ} (k-is : k ≡ get_or rec 0 0) where
-  pub note_name : is_name k ≡ true → {v : ℕ} {a : Answer (Option ℕ)} → a ≡ node_of links edges scope rec → v ≡ noted a
-      → set nodes at v ≡ note_of nodes at rec links edges scope
-  unfolding note_of
-  note_name e pa pv = let h : is_name (get_or rec 0 0) ≡ true = rw (← k-is) e in rw (h, pv, pa)
-
   pub note_other : is_name k ≡ false → nodes ≡ note_of nodes at rec links edges scope
   unfolding note_of
   note_other e = let h : is_name (get_or rec 0 0) ≡ false = rw (← k-is) e in rw h
-
-module _ (nodes : List ℕ) (at : ℕ) (rec links : List ℕ) (edges scope : ℕ) where
-  pub note_past : length nodes ≤ at → nodes ≡ note_of nodes at rec links edges scope
-  unfolding note_of
-  note_past h = go (is_name (get_or rec 0 0))
-    where
-      go : (b : Bool) → nodes ≡ pick b (set nodes at (noted (node_of links edges scope rec))) nodes
-      go true = sym (set_out nodes at (noted (node_of links edges scope rec)) h)
-      go false = refl
 
 -- no record is no name
 note_none : (nodes : List ℕ) (at : ℕ) (rec links : List ℕ) (edges scope : ℕ) → length rec ≡ 0

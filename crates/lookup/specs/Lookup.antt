@@ -1,6 +1,5 @@
 -- What a name record means. Assumes nothing: these are definitions.
-use Rattle.std.specs.Prelude.{ℕ, List, [], ◌∷◌, drop}
-use Rattle.std.proofs.Math.Option.{Option}
+use Rattle.std.specs.Prelude.{ℕ, List, [], ◌∷◌, drop, Option}
 use Rattle.refusals.specs.Answer.{Answer}
 use Rattle.little.specs.Little.{number}
 use Rattle.scopes.specs.Scopes.{query_edges}

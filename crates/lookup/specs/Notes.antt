@@ -1,7 +1,6 @@
 -- What is noted of the names of a tape: at the offset of each, one more than the node that it reaches. The scope in which a name is
 -- read is a function of its offset. Assumes nothing: these are definitions.
-use Rattle.std.specs.Prelude.{ℕ, zero, suc, ◌+◌, true, List, ◌≡◌, ltb, length, get_or, set}
-use Rattle.std.proofs.Math.Option.{Option, none, some}
+use Rattle.std.specs.Prelude.{ℕ, zero, suc, ◌+◌, true, List, ◌≡◌, ltb, length, get_or, set, Option, None, Some}
 use Rattle.refusals.specs.Answer.{Answer, Done, Refused, pick}
 use Rattle.edges.specs.Edges.{max_nodes}
 use Rattle.tape.specs.Kinds.{is_name}
@@ -12,8 +11,8 @@ use Rattle.lookup.specs.Lookup.{node_of}
 
 -- what is noted of a node: one more than it, or 0 where there is none
 abbrev pub noted : Answer (Option ℕ) → ℕ
-noted (Done none) = 0
-noted (Done (some n)) = pick (ltb n max_nodes) (n + 1) 0
+noted (Done None) = 0
+noted (Done (Some n)) = pick (ltb n max_nodes) (n + 1) 0
 noted (Refused n) = 0
 
 -- nodes, with the node of a record that is a name noted at its offset

@@ -2,24 +2,26 @@
 #![tactic(auto)]
 
 ghost use Rattle.std.specs.Prelude.{◌≡◌, ◌-◌, ◌/◌, length, replicate};
-ghost use Rattle.scopes.specs.Says.{says_found};
+ghost use Rattle.refusals.specs.Says.{says};
 ghost use Rattle.lookup.specs.Lookup.{node_of};
 ghost use Rattle.lookup.specs.Notes.{noted, note_of};
 
-use refusals::ARGUMENT;
-use scopes::Found;
+use edges::{LONGEST, wide};
+use refusals::Refusal;
 use symbols::{NODES, WORDS};
 
-// How many ids a name has at most.
-const LONGEST: usize = 4;
-
 // The node that the query from the scope finds for a name record, in the edges of a table.
-pub fn node_of(links: &[u16; WORDS], edges: usize, scope: u16, name: &[u8]) -> Found
-    ensures { says_found result ≡ node_of links.now edges scope name.now }
+pub fn node_of(
+    links: &[u16; WORDS],
+    edges: usize,
+    scope: u16,
+    name: &[u8],
+) -> Result<Option<u16>, Refusal>
+    ensures { says result ≡ node_of links.now edges scope name.now }
 {
     let n = ids_in(name.len());
     if LONGEST < n {
-        return Found::Refused(ARGUMENT);
+        return Err(Refusal::Argument);
     }
     let path = [
         little::u16_at(name, 2),
@@ -34,14 +36,11 @@ pub fn node_of(links: &[u16; WORDS], edges: usize, scope: u16, name: &[u8]) -> F
 pub fn clear(nodes: &mut [u16])
     ensures { nodes.new ≡ replicate (length nodes.old) 0 }
 {
-    let mut i: usize = 0;
-    while i < nodes.len() {
-        nodes[i] = 0;
-        i += 1;
-    }
+    nodes.fill(0);
 }
 
 // The node of a record that is a name, noted at its offset, if there is room for it.
+#[tactic(auto, unfolding(crate::specs::Notes::note_of))]
 pub fn note(
     nodes: &mut [u16],
     at: usize,
@@ -52,21 +51,18 @@ pub fn note(
 )
     ensures { nodes.new ≡ note_of nodes.old at rec.now links.now edges scope }
 {
-    if at < nodes.len() {
-        if tape::is_name(little::u8_at(rec, 0)) {
-            nodes[at] = plus_one(node_of(links, edges, scope, rec));
-        }
+    if at < nodes.len() && tape::is_name(little::u8_at(rec, 0)) {
+        nodes[at] = plus_one(node_of(links, edges, scope, rec));
     }
 }
 
 // One more than the node that is found; 0 where there is none that a table has.
-fn plus_one(found: Found) -> u16
-    ensures { result ≡ noted (says_found found) }
+fn plus_one(found: Result<Option<u16>, Refusal>) -> u16
+    ensures { result ≡ noted (says found) }
 {
     match found {
-        Found::At(node) => { if (node as usize) < NODES { node + 1 } else { 0 } }
-        Found::Nothing => 0,
-        Found::Refused(_) => 0,
+        Ok(Some(node)) if wide(node) < NODES => node + 1,
+        _ => 0,
     }
 }
 
@@ -74,5 +70,5 @@ fn plus_one(found: Found) -> u16
 fn ids_in(len: usize) -> usize
     ensures { result ≡ (len - 2) / 2 }
 {
-    if len < 2 { 0 } else { (len - 2) / 2 }
+    len.saturating_sub(2) / 2
 }

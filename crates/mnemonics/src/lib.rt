@@ -1,7 +1,7 @@
 // The letters of mnemonics, by their numbers, as a listing writes them.
 #![tactic(auto)]
 
-ghost use Rattle.std.specs.Prelude.{◌≡◌, ◌<◌};
+ghost use Rattle.std.specs.Prelude.{◌≡◌};
 ghost use Rattle.mnemonics.specs.Ascii.{ascii};
 ghost use Rattle.mnemonics.specs.Mnemonics.{name_of};
 
@@ -26,15 +26,8 @@ pub fn letters_of(mnemonic: u8) -> [u8; 3]
     ensures { result ≡ ascii (name_of mnemonic) }
 {
     if mnemonic < DATA {
-        return known(mnemonic as usize);
+        MNEMONICS[mnemonic as usize]
+    } else {
+        DASHES
     }
-    DASHES
-}
-
-// The letters of a mnemonic that is in the table.
-fn known(mnemonic: usize) -> [u8; 3]
-    requires { mnemonic < 56 }
-    ensures { result ≡ ascii (name_of mnemonic) }
-{
-    MNEMONICS[mnemonic]
 }

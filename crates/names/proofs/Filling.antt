@@ -3,7 +3,6 @@ use mathlib.Core.Bool.{Bool, true, false}
 use mathlib.Core.List.{List, []}
 use mathlib.Core.Path.{◌≡◌, refl, sym, ap, ◌∙◌, subst}
 use Prim.Native.Nat.{ℕ, ◌+◌, ◌≤◌, ◌<◌}
-use native.Mathlib.Omega.{arith}
 use lib.Dec.{eqb}
 use lib.ListN.{length, get_or, replicate, length-replicate}
 use Rattle.refusals.specs.Answer.{Answer, Refused}
@@ -25,7 +24,7 @@ use Rattle.names.specs.declared.Walk.{Walk}
 use Rattle.names.specs.Scopes.{Scopes, outermost, scopes_after}
 use Rattle.names.specs.Names.{Declaring, declaring, declare_one}
 use Rattle.names.specs.Steps.{walk, walk_after, fault_of, edges_after, table_of, declared_on}
-use Rattle.names.proofs.Nesting.{nested_scope, walk_of, walk_statement, inner_walk, inner_edges, inner_fault}
+use Rattle.names.proofs.Nesting.{walk_of, walk_statement, inner_walk, inner_edges, inner_fault}
 use Rattle.names.proofs.Standing.{id_some, standing, Held, nested_words, one_refused, one_accepted}
 
 -- ---- the loop: what the statements from here on declare, with this state, is what all declare
@@ -60,19 +59,6 @@ fill_start tape form zeros e = record {
 module _ {tape links : List ℕ} {w : Walk} {at : ℕ} (f : Filling tape links w at) where
   abbrev here : List ℕ
   here = bytes_at tape at
-
-  -- how many names there are, and where the innermost scope is
-  pub few_names : w.names + 1 ≤ 1024
-  few_names = omega (arith, ap (λ (v : Walk). v.names) f.walks, f.held.is_sound.few_nodes)
-
-  pub few_scopes : w.scope ≤ w.names
-  few_scopes =
-      omega (
-        arith,
-        ap (λ (v : Walk). v.names) f.walks,
-        ap (λ (v : Walk). v.scope) f.walks,
-        nested_scope links f.s.names f.s.around f.held.nested,
-      )
 
   ends : statements_at tape at ≡ [] → Fine (table_of links w.names) ≡ declared_on tape
   unfolding declared_on

@@ -1,8 +1,8 @@
 -- What a record of a kind says as a statement; and the nodes of the scopes that are open, as the walk finds them in the edges.
 -- Assumes nothing.
+use Rattle.std.specs.Prelude.{None, Some, is_some}
 use mathlib.Core.Bool.{Bool, true, false}
 use mathlib.Core.List.{List, [], ◌∷◌}
-use mathlib.Core.Option.{none, some}
 use mathlib.Core.Path.{◌≡◌, refl, sym, ap, ◌∙◌, subst}
 use Prim.Native.Nat.{ℕ, zero, suc, ◌+◌, ◌*◌, ◌≤◌, ◌<◌}
 use native.Mathlib.Numerals.{add-one}
@@ -21,7 +21,7 @@ use Rattle.form.specs.Statements.{What, Instruction, Open, Close, Label, Constan
 use Rattle.form.proofs.Statements.{not_empty}
 use Rattle.names.specs.declared.Walk.{Walk}
 use Rattle.names.specs.Scopes.{Scopes, scopes, scope_of, scopes_after}
-use Rattle.names.specs.Names.{id_of, is_some}
+use Rattle.names.specs.Names.{id_of}
 use Rattle.names.specs.Steps.{walk, enclosing, walk_after, fault_of, edges_after}
 
 -- ---- a record of kind k as a statement
@@ -35,14 +35,14 @@ scopes_by k s =
 
 -- x is what it says: by its kind, it declares its id or none, and these are the scopes behind it
 pub record Said (r : List ℕ) (k : ℕ) (x : What) : Type 0 where
-  pub id : id_of x ≡ pick (declares k) (some (number_at 2 r 1)) none
+  pub id : id_of x ≡ pick (declares k) (Some (number_at 2 r 1)) None
   pub behind : (s : Scopes) → scopes_after s x ≡ scopes_by k s
 
 said_at : (r : List ℕ) (k n : ℕ) (x : What) → eqb k n ≡ true → Said r n x → Said r k x
 said_at r k n x e = subst (λ (j : ℕ). Said r j x) (sym (eqb-true k n e))
 
 said_other : (r : List ℕ) (k : ℕ) (x : What) → eqb k open_scope ≡ false → eqb k close_scope ≡ false → eqb k label ≡ false
-    → eqb k constant ≡ false → id_of x ≡ none → ((s : Scopes) → scopes_after s x ≡ s) → Said r k x
+    → eqb k constant ≡ false → id_of x ≡ None → ((s : Scopes) → scopes_after s x ≡ s) → Said r k x
 unfolding declares
 said_other r k x o c l n id same = record { id = id ∙ rw (o, l, n); behind = λ s. same s ∙ rw (o, c, l, n) }
 
@@ -80,7 +80,7 @@ said r =
 pub said_some : (r : List ℕ) → is_some (id_of (what_of r)) ≡ declares (get_or r 0 0)
 said_some r = ap is_some (said r).id ∙ go (declares (get_or r 0 0))
   where
-    go : (t : Bool) → is_some (pick t (some (number_at 2 r 1)) none) ≡ t
+    go : (t : Bool) → is_some (pick t (Some (number_at 2 r 1)) None) ≡ t
     go true = refl
     go false = refl
 

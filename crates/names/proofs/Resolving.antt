@@ -1,4 +1,5 @@
 -- The loop that notes the names: what each turn keeps, and the notes at each way out. Assumes nothing.
+use Rattle.std.specs.Prelude.{is_some}
 use mathlib.Core.Bool.{Bool, true, false}
 use mathlib.Core.List.{List, [], ◌∷◌}
 use mathlib.Core.Path.{◌≡◌, refl, sym, ap, ◌∙◌, subst}
@@ -21,9 +22,9 @@ use Rattle.lookup.specs.Notes.{note_of, notes_of}
 use Rattle.lookup.proofs.Notes.{Noting, noting_start, noting_on, noting_past, note_other}
 use Rattle.names.specs.declared.Walk.{Walk}
 use Rattle.names.specs.Scopes.{Scopes, outermost, scope_of, scopes_after, scopes_behind, before, scope_at}
-use Rattle.names.specs.Names.{id_of, is_some}
+use Rattle.names.specs.Names.{id_of}
 use Rattle.names.specs.Steps.{walk, walk_after, table_of, declared_on}
-use Rattle.names.proofs.Nesting.{names_after, Nested, nested_scope, nested_after, walk_of, walk_statement, inner_walk, next_within}
+use Rattle.names.proofs.Nesting.{names_after, Nested, nested_after, walk_of, walk_statement, inner_walk, next_within}
 use Rattle.names.proofs.Tables.{Edge, Written, declared_ran}
 
 -- ---- which statements begin before an offset
@@ -87,13 +88,6 @@ module _ {tape links : List ℕ} {edges : ℕ} {first nodes : List ℕ} {w : Wal
     (f : Resolving tape links edges first nodes w at) where
   abbrev here : List ℕ
   here = bytes_at tape at
-
-  pub few_names : w.names + 1 ≤ 1024
-  few_names = omega (arith, ap (λ (v : Walk). v.names) f.walks, f.few)
-
-  pub few_scopes : w.scope ≤ 1023
-  few_scopes =
-      omega (arith, ap (λ (v : Walk). v.scope) f.walks, f.few, nested_scope links f.s.names f.s.around f.nested)
 
   -- the walk is in the scope in which the record here stands
   scope_here : w.scope ≡ scope_at tape at

@@ -1,7 +1,7 @@
 -- What one statement of a sound tape does: the state, by the code's refusal, its words and its walk. Assumes nothing.
+use Rattle.std.specs.Prelude.{None, Some}
 use mathlib.Core.Bool.{Bool, true, false, ◌||◌}
 use mathlib.Core.List.{List, [], ◌∷◌}
-use mathlib.Core.Option.{none, some}
 use mathlib.Core.Path.{◌≡◌, refl, sym, ap, ◌∙◌, subst}
 use Prim.Native.Nat.{ℕ, ◌+◌, ◌*◌, ◌≤◌, ◌<◌}
 use native.Mathlib.Omega.{arith}
@@ -107,7 +107,7 @@ module _ (links : List ℕ) (s : Scopes) (h : Held links s) (at : ℕ) (r : List
     one_plain : declare_one (standing links s) (statement_of at r) ≡ Done (standing words next)
     unfolding declare_one
     one_plain =
-        let no-id : id_of (what_of r) ≡ none = (said r).id ∙ rw e in
+        let no-id : id_of (what_of r) ≡ None = (said r).id ∙ rw e in
         let back = sym same_words in
         let names = sym same_names in
         ap (λ o. mapped (λ (t : SymbolTable). declaring t next) (declare (table_of links s.names) (scope_of s) o)) no-id
@@ -134,10 +134,10 @@ module _ (links : List ℕ) (s : Scopes) (h : Held links s) (at : ℕ) (r : List
     one_named : declare_one (standing links s) (statement_of at r)
         ≡ mapped (λ (t : SymbolTable). declaring t next)
         (pick (taken_in links s.names (scope_of s) id) (Refused name_taken)
-        (mapped (λ m. m.0) (insert (table_of links s.names) (scope_of s) id none)))
+        (mapped (λ m. m.0) (insert (table_of links s.names) (scope_of s) id None)))
     unfolding declare_one is_taken taken_in table_of
     one_named =
-        let named : id_of (what_of r) ≡ some id = (said r).id ∙ rw e in
+        let named : id_of (what_of r) ≡ Some id = (said r).id ∙ rw e in
         ap (λ o. mapped (λ (t : SymbolTable). declaring t next) (declare (table_of links s.names) (scope_of s) o)) named
 
     one_done : 0 < id → taken_in links s.names (scope_of s) id ≡ false → s.names + 1 < 1024
@@ -164,7 +164,7 @@ module _ (links : List ℕ) (s : Scopes) (h : Held links s) (at : ℕ) (r : List
         one_named
         ∙ (λ i. mapped (λ (t : SymbolTable). declaring t next)
         (pick (taken i) (Refused name_taken)
-        (mapped (λ m. m.0) (insert (table_of links s.names) (scope_of s) id none))))
+        (mapped (λ m. m.0) (insert (table_of links s.names) (scope_of s) id None))))
 
     -- the words with its edge
     abbrev more : List ℕ

@@ -1,11 +1,10 @@
 -- The table of a tape's names: what a declaration adds to it, and what stays as it was. Assumes nothing.
+use Rattle.std.specs.Prelude.{Option, None, Some, is_some}
 use mathlib.Core.Bool.{Bool, true, false, ◌&&◌}
 use mathlib.Core.List.{List, [], ◌∷◌}
-use mathlib.Core.Option.{Option, none, some}
 use mathlib.Core.Path.{◌≡◌, refl, ap, ◌∙◌, subst}
 use Prim.Native.Nat.{ℕ, zero, suc, ◌+◌, ◌*◌, ◌≤◌, ◌<◌}
 use native.Mathlib.Omega.{arith}
-use lib.IntN.{pos}
 use lib.ListN.{length, get_or, set, replicate, length-replicate}
 use borrow.Author.Tests.{lt-ltb, le-leb, lt-leb}
 use Rattle.refusals.specs.Answer.{Answer, Done, Refused, pick, mapped}
@@ -24,7 +23,7 @@ use Rattle.symbols.proofs.Growing.{Sound, Place, inserted_sound, lengths_inserte
 use Rattle.symbols.proofs.Kept.{insert_has, new_sound, sound_table}
 use Rattle.form.specs.Statements.{What, Statement, statements, placed, over_statements}
 use Rattle.names.specs.Scopes.{Scopes, outermost, scope_of, scopes_after, scopes_behind}
-use Rattle.names.specs.Names.{id_of, is_some, is_taken, declare, Declaring, declaring, declare_one}
+use Rattle.names.specs.Names.{id_of, is_taken, declare, Declaring, declaring, declare_one}
 use Rattle.names.specs.Steps.{table_of, declared_on}
 use Rattle.names.proofs.Nesting.{names_after}
 
@@ -41,14 +40,13 @@ module _ (links : List ℕ) (n s x : ℕ) where
   grown = over links (3 * n) (s ∷ x ∷ (n + 1) ∷ [])
 
   -- no node has a number, the new one neither
-  inserted_is : inserted (table_of links n) s x none ≡ table_of grown (n + 1)
+  inserted_is : inserted (table_of links n) s x None ≡ table_of grown (n + 1)
   unfolding table_of with_edge with_node
   inserted_is i = record {
     nodes = n + 1 + 1;
     edges = n + 1;
     links = grown;
-    known = set_same 1024 (n + 1) false i;
-    number = set_same 1024 (n + 1) (pos 0) i;
+    numbers = set_same 1024 (n + 1) None i;
   }
 
   module _ (h : SoundEdges (n + 1) n (edges_in links n)) (node : s < n + 1) (name : 0 < x) where
@@ -56,13 +54,13 @@ module _ (links : List ℕ) (n s x : ℕ) where
     unfolding table_of
     asked = rw (sound_table (table_of links n) h, lt-ltb s (n + 1) node, lt-ltb 0 x name)
 
-    pub insert_done : n + 1 < 1024 → insert (table_of links n) s x none ≡ Done (table_of grown (n + 1), n + 1)
+    pub insert_done : n + 1 < 1024 → insert (table_of links n) s x None ≡ Done (table_of grown (n + 1), n + 1)
     unfolding insert room table_of
     insert_done free =
         rw (asked, le-leb (n + 1 + 1) 1024 (omega arith), le-leb (n + 1) 2048 (omega arith))
         (ap (λ (t : SymbolTable). Done (t, n + 1)) inserted_is)
 
-    pub insert_full : 1024 ≤ n + 1 → insert (table_of links n) s x none ≡ Refused no_room
+    pub insert_full : 1024 ≤ n + 1 → insert (table_of links n) s x None ≡ Refused no_room
     unfolding insert room table_of
     insert_full full = rw (asked, lt-leb (n + 1 + 1) 1024 (omega arith))
 
@@ -71,7 +69,7 @@ module _ (links : List ℕ) (n s x : ℕ) where
       → SoundEdges (n + 1 + 1) (n + 1) (edges_in grown (n + 1))
   unfolding table_of with_edge with_node
   grown_sound h node name free size =
-      inserted_sound (table_of links n) s x none
+      inserted_sound (table_of links n) s x None
       (record { is_sound = h; size = size; node = node; name = name; nodes = free; edges = omega arith })
 
 -- ---- how many names are behind a statement
@@ -123,12 +121,12 @@ record Declares (t : SymbolTable) (s : Scopes) (o : Option ℕ) (u : SymbolTable
   edge : Edge u.links s o
 
 declares_id : (t : SymbolTable) (s : Scopes) (x : ℕ) (e : Scopes) → Good (declaring t s) → Place t (scope_of s) x → e.names ≡ s.names + 1
-    → Declares t s (some x) (inserted t (scope_of s) x none) e
+    → Declares t s (Some x) (inserted t (scope_of s) x None) e
 unfolding with_edge with_node
 declares_id t s x e g place more = record {
   good = record {
-    is_sound = inserted_sound t (scope_of s) x none place;
-    size = ap (λ l. l.0) (lengths_inserted t (scope_of s) x none place) ∙ g.size;
+    is_sound = inserted_sound t (scope_of s) x None place;
+    size = ap (λ l. l.0) (lengths_inserted t (scope_of s) x None place) ∙ g.size;
     nodes = omega (arith, g.nodes);
     edges = omega (arith, g.edges);
   };
@@ -136,28 +134,28 @@ declares_id t s x e g place more = record {
   edge = λ is.
       let first : 3 * s.names ≡ 3 * t.edges + 0 = omega (arith, g.edges) in (
         omega (arith, place.nodes, g.nodes),
-        ap (λ (i : ℕ). get_or (inserted t (scope_of s) x none).links i 0) first
+        ap (λ (i : ℕ). get_or (inserted t (scope_of s) x None).links i 0) first
             ∙ word_in t.links t.edges (scope_of s) x t.nodes g.size place.edges 0,
       );
 }
 
 declares_by : (t u : SymbolTable) (s : Scopes) (o : Option ℕ) (e : Scopes) → Good (declaring t s) → declare t (scope_of s) o ≡ Done u
     → e.names ≡ pick (is_some o) (s.names + 1) s.names → Declares t s o u e
-declares_by t u s none e g done names =
-    subst (λ (v : SymbolTable). Declares t s none v e) (done_value done)
+declares_by t u s None e g done names =
+    subst (λ (v : SymbolTable). Declares t s None v e) (done_value done)
     (record {
       good = record { is_sound = g.is_sound; size = g.size; nodes = omega (arith, g.nodes); edges = omega (arith, g.edges) };
       words = λ i l. refl;
       edge = λ is. never (cc);
     })
-declares_by t u s (some x) e g done names =
-    go (insert t (scope_of s) x none) refl (done_missed (is_taken t (scope_of s) x) _ _ done).1
+declares_by t u s (Some x) e g done names =
+    go (insert t (scope_of s) x None) refl (done_missed (is_taken t (scope_of s) x) _ _ done).1
   where
-    go : (a : Answer (SymbolTable × ℕ)) → insert t (scope_of s) x none ≡ a → mapped (λ (m : SymbolTable × ℕ). m.0) a ≡ Done u
-        → Declares t s (some x) u e
+    go : (a : Answer (SymbolTable × ℕ)) → insert t (scope_of s) x None ≡ a → mapped (λ (m : SymbolTable × ℕ). m.0) a ≡ Done u
+        → Declares t s (Some x) u e
     go (Done v) is done =
-        let made = insert_has t (scope_of s) x none is g.size in
-        subst (λ (v : SymbolTable). Declares t s (some x) v e) (ap (λ m. m.0) made.1 ∙ done_value done)
+        let made = insert_has t (scope_of s) x None is g.size in
+        subst (λ (v : SymbolTable). Declares t s (Some x) v e) (ap (λ m. m.0) made.1 ∙ done_value done)
         (declares_id t s x e g made.0 names)
     go (Refused n) is done = never (cc)
 

@@ -1,11 +1,9 @@
 -- The names of a tape. Document 01: "Then all names are declared in tape order; at a record, 3 (id already in that scope) before 2.
 -- Only then are expressions evaluated, so a name sees later definitions in its own scope." Assumes nothing: these are definitions.
-use Rattle.std.specs.Prelude.{ℕ, Bool, true, false, List, eqb}
-use Rattle.std.proofs.Math.Option.{Option, none, some}
+use Rattle.std.specs.Prelude.{ℕ, Bool, List, eqb, Option, None, Some, is_some}
 use Rattle.refusals.specs.Answer.{Answer, Done, Refused, pick, mapped}
 use Rattle.refusals.specs.AnswerAt as At
 use Rattle.refusals.specs.AnswerAt.{AnswerAt, Fine, Fault, and_then}
-use Rattle.refusals.specs.Says.{says_at}
 use Rattle.refusals.specs.Table.{argument, name_taken}
 use Rattle.symbols.specs.declared.SymbolTable.{SymbolTable}
 use Rattle.edges.specs.Edges.{child_of}
@@ -13,26 +11,21 @@ use Rattle.symbols.specs.Symbols.{edges_of, new, insert}
 use Rattle.form.specs.Form.{max_tape, tape_form}
 use Rattle.form.specs.Statements.{What, Instruction, Open, Close, Label, Constant, SetPlace, Byte, Word, Screen, Statement, statements, over_statements}
 use Rattle.lookup.specs.Notes.{notes_of}
-use Rattle.names.specs.declared.Declared.{Declared}
 use Rattle.names.specs.Scopes.{Scopes, outermost, scope_of, scopes_after, scope_at}
 
 -- ---- declaring
 
 -- the id that a statement declares, if it does: scopes, labels and constants are names
 abbrev pub id_of : What → Option ℕ
-id_of (Open id) = some id
-id_of (Label id) = some id
-id_of (Constant id) = some id
-id_of Close = none
-id_of (Instruction mnemonic mode suffix) = none
-id_of SetPlace = none
-id_of Byte = none
-id_of Word = none
-id_of (Screen petscii) = none
-
-abbrev pub is_some : Option ℕ → Bool
-is_some none = false
-is_some (some n) = true
+id_of (Open id) = Some id
+id_of (Label id) = Some id
+id_of (Constant id) = Some id
+id_of Close = None
+id_of (Instruction mnemonic mode suffix) = None
+id_of SetPlace = None
+id_of Byte = None
+id_of Word = None
+id_of (Screen petscii) = None
 
 -- "id already in that scope"
 unfoldable pub is_taken : SymbolTable → ℕ → ℕ → Bool
@@ -40,8 +33,8 @@ is_taken t scope id = is_some (child_of (edges_of t) scope id)
 
 -- the table with that id declared in a scope, without a number: "3 (id already in that scope) before 2"
 abbrev pub declare : SymbolTable → ℕ → Option ℕ → Answer SymbolTable
-declare t scope none = Done t
-declare t scope (some id) = pick (is_taken t scope id) (Refused name_taken) (mapped (λ made. made.0) (insert t scope id none))
+declare t scope None = Done t
+declare t scope (Some id) = pick (is_taken t scope id) (Refused name_taken) (mapped (λ made. made.0) (insert t scope id None))
 
 -- what is carried from statement to statement
 pub record Declaring : Type 0 where
@@ -66,14 +59,6 @@ names_of tape =
 -- with memory of so many places for notes: of 65,536, as a tape has that many offsets
 unfoldable pub declare_of : List ℕ → ℕ → AnswerAt SymbolTable
 declare_of tape places = pick (eqb places max_tape) (names_of tape) (Fault argument 0)
-
--- the table, or the root alone where the tape is refused; and the outcome
-abbrev pub left : AnswerAt SymbolTable → SymbolTable × AnswerAt (Unit {0})
-left (Fine t) = (t, Fine tt)
-left (Fault n at) = (new, Fault n at)
-
-abbrev pub says_declared : Declared → SymbolTable × AnswerAt (Unit {0})
-says_declared d = (d.table, says_at d.answer)
 
 -- the notes afterwards: at each name record, the node that it reaches from the scope in which it stands; of a refused tape none
 abbrev pub notes_after : List ℕ → List ℕ → AnswerAt SymbolTable → List ℕ

@@ -1,6 +1,6 @@
 -- What private functions promise each other on the way: the scope as one node, and the edges as lent words. No public promise cites
 -- these. Assumes nothing: these are definitions.
-use Rattle.std.specs.Prelude.{ℕ, zero, suc, ◌+◌, ◌*◌, Bool, false, List, [], ◌∷◌, eqb, ltb, pos, get_or, replicate}
+use Rattle.std.specs.Prelude.{ℕ, zero, suc, ◌+◌, ◌*◌, Bool, List, [], ◌∷◌, eqb, ltb, get_or, replicate, None, is_some}
 use Rattle.refusals.specs.Answer.{pick}
 use Rattle.refusals.specs.AnswerAt as At
 use Rattle.refusals.specs.AnswerAt.{AnswerAt, Fine, Fault}
@@ -14,10 +14,8 @@ use Rattle.tape.specs.Kinds.{open_scope, close_scope}
 use Rattle.form.specs.Form.{declares}
 use Rattle.form.specs.Statements.{statements, over_statements}
 use Rattle.names.specs.declared.Walk.{Walk}
-use Rattle.names.specs.declared.Filled as F
-use Rattle.names.specs.declared.Filled.TheVariants as filled
 use Rattle.names.specs.Scopes.{outermost}
-use Rattle.names.specs.Names.{Declaring, declaring, declare_one, is_some}
+use Rattle.names.specs.Names.{Declaring, declaring, declare_one}
 
 -- ---- one record
 
@@ -58,11 +56,7 @@ edges_after links w r =
 
 -- the table of n names, whose edges are these words
 unfoldable pub table_of : List ℕ → ℕ → SymbolTable
-table_of links n = record { nodes = n + 1; edges = n; links = links; known = replicate max_nodes false; number = replicate max_nodes (pos 0) }
-
-abbrev pub says_filled : F.Filled → AnswerAt ℕ
-says_filled (filled.Edges n) = Fine n
-says_filled (filled.Refused n at) = Fault n at
+table_of links n = record { nodes = n + 1; edges = n; links = links; numbers = replicate max_nodes None }
 
 -- what a number of edges and their words say
 abbrev pub tabled : List ℕ → AnswerAt ℕ → AnswerAt SymbolTable

@@ -3,114 +3,77 @@
 #![tactic(auto)]
 
 ghost use Rattle.std.specs.Prelude.{◌≡◌, ◌+◌, ◌*◌, ◌≤◌, ◌<◌, length, replicate};
-ghost use Rattle.refusals.specs.AnswerAt.{Fine, Fault};
+ghost use Rattle.refusals.specs.AnswerAt.{Fine};
+ghost use Rattle.refusals.specs.Says.{says_at};
 ghost use Rattle.edges.specs.Edges.{max_edges};
 ghost use Rattle.form.specs.Form.{tape_form};
+ghost use Rattle.form.specs.Says.{fault_number};
 ghost use Rattle.lookup.specs.Notes.{notes_of};
 ghost use Rattle.names.specs.Scopes.{scope_at};
-ghost use Rattle.names.specs.Names.{left, declare_of, says_declared, notes_after};
-ghost use Rattle.names.specs.Steps.{taken_in, fault_of, edges_after, enclosing, walk_after, says_filled, tabled, table_of, declared_on};
+ghost use Rattle.names.specs.Names.{declare_of, notes_after};
+ghost use Rattle.names.specs.Steps.{taken_in, fault_of, edges_after, enclosing, walk_after, tabled, table_of, declared_on};
 
-use edges::Reached;
+use edges::{WIDTH, wide};
 use form::LONGEST;
-use refusals::{ARGUMENT, NAME_TAKEN, NO_ROOM, OutcomeAt};
+use refusals::{Fault, Refusal};
 use symbols::{NODES, SymbolTable, WORDS};
 use tape::{CLOSE_SCOPE, OPEN_SCOPE};
 
-// How many words an edge has.
-const WIDTH: usize = 3;
-
-// The table of a tape's names, the root alone where the tape is refused; and the outcome.
-#[derive(Clone, Copy)]
-pub struct Declared {
-    pub table: SymbolTable,
-    pub answer: OutcomeAt,
-}
-
 // Between two records: how many names are declared, and the node of the innermost scope.
-#[derive(Clone, Copy)]
+#[derive(Clone, Copy, Debug, PartialEq, Eq)]
 struct Walk {
     names: usize,
     scope: u16,
 }
 
-// How many edges the names of a tape have, or the refusal.
-#[derive(Clone, Copy)]
-enum Filled {
-    Edges(usize),
-    Refused { number: u8, at: usize },
-}
-
 // Declares the names of a tape, and notes at each name record the node that it reaches: one more than the node, or 0.
-pub fn declare(tape: &[u8], nodes: &mut [u16]) -> Declared
-    ensures { (says_declared result ≡ left (declare_of tape.now (length nodes.old)))
+pub fn declare(tape: &[u8], nodes: &mut [u16]) -> Result<SymbolTable, Fault>
+    ensures { (says_at result ≡ declare_of tape.now (length nodes.old))
         × (nodes.new ≡ notes_after tape.now nodes.old (declare_of tape.now (length nodes.old))) }
 {
     if nodes.len() != LONGEST {
-        return refused(ARGUMENT, 0);
+        return Err(Refusal::Argument.at(0));
     }
-    match form::form(tape) {
-        OutcomeAt::Refused { number, at } => refused(number, at),
-        OutcomeAt::Done => declare_sound(tape, nodes),
-    }
-}
-
-// A refusal: the root alone.
-fn refused(number: u8, at: usize) -> Declared
-    ensures { says_declared result ≡ left (Fault number at) }
-{
-    Declared {
-        table: SymbolTable::new(),
-        answer: OutcomeAt::Refused { number, at },
-    }
+    form::form(tape)?;
+    declare_sound(tape, nodes)
 }
 
 // The same where the form of the tape is accepted.
-fn declare_sound(tape: &[u8], nodes: &mut [u16]) -> Declared
+fn declare_sound(tape: &[u8], nodes: &mut [u16]) -> Result<SymbolTable, Fault>
     requires { tape_form tape.now ≡ Fine tt }
-    ensures { (says_declared result ≡ left (declared_on tape.now))
+    ensures { (says_at result ≡ declared_on tape.now)
         × (nodes.new ≡ notes_after tape.now nodes.old (declared_on tape.now)) }
 {
     let mut links = [0u16; WORDS];
-    match fill(tape, &mut links) {
-        Filled::Refused { number, at } => refused(number, at),
-        Filled::Edges(edges) => {
-            resolve(tape, &links, edges, nodes);
-            Declared {
-                table: SymbolTable {
-                    nodes: edges + 1,
-                    edges,
-                    links,
-                    known: [false; NODES],
-                    number: [0i64; NODES],
-                },
-                answer: OutcomeAt::Done,
-            }
-        }
-    }
+    let edges = fill(tape, &mut links)?;
+    resolve(tape, &links, edges, nodes);
+    Ok(SymbolTable {
+        nodes: edges + 1,
+        edges,
+        links,
+        numbers: [None; NODES],
+    })
 }
 
-// Writes the edges of all declarations, in tape order.
-fn fill(tape: &[u8], links: &mut [u16; WORDS]) -> Filled
+// Writes the edges of all declarations, in tape order, and says how many there are.
+fn fill(tape: &[u8], links: &mut [u16; WORDS]) -> Result<usize, Fault>
     requires { (tape_form tape.now ≡ Fine tt) × (links.old ≡ replicate 6144 0) }
-    ensures { tabled links.new (says_filled result) ≡ declared_on tape.now }
+    ensures { tabled links.new (says_at result) ≡ declared_on tape.now }
 {
     let mut walk = Walk { names: 0, scope: 0 };
     let mut at: usize = 0;
+    // A record's length is the step of this walk: no index is counted.
     while at < tape.len() {
         let rec = tape::record(tape, at);
         if form::is_last(rec) {
-            return Filled::Edges(walk.names);
+            return Ok(walk.names);
         }
-        let fault = fault_of(links, walk, rec);
-        if fault != 0 {
-            return Filled::Refused { number: fault, at };
-        }
+        fault_of(links, walk, rec).map_err(|why| why.at(at))?;
         put(links, walk, rec);
         walk = behind(links, walk, rec);
         at += rec.len();
     }
-    Filled::Edges(walk.names)
+    Ok(walk.names)
 }
 
 // Notes at each name record the node that it reaches from the scope in which it stands.
@@ -121,6 +84,7 @@ fn resolve<'a>(tape: &'a [u8], links: &'a [u16; WORDS], edges: usize, nodes: &mu
 {
     let mut walk = Walk { names: 0, scope: 0 };
     let mut at: usize = 0;
+    // A record's length is the step of this walk: no index is counted.
     while at < tape.len() {
         let rec = tape::record(tape, at);
         if form::is_last(rec) {
@@ -132,32 +96,35 @@ fn resolve<'a>(tape: &'a [u8], links: &'a [u16; WORDS], edges: usize, nodes: &mu
     }
 }
 
-// The refusal that a record brings, or 0: its id is in the scope already, or there is no room for it.
-fn fault_of(links: &[u16; WORDS], walk: Walk, rec: &[u8]) -> u8
+// Refuses a record whose id is in the scope already, or for which there is no room.
+#[tactic(auto, unfolding(crate::specs::Steps::fault_of))]
+fn fault_of(links: &[u16; WORDS], walk: Walk, rec: &[u8]) -> Result<(), Refusal>
     requires { walk.names ≤ max_edges }
-    ensures { result ≡ fault_of links.now walk rec.now }
+    ensures { fault_number result ≡ fault_of links.now walk rec.now }
 {
     if !form::declares(little::u8_at(rec, 0)) {
-        return 0;
+        return Ok(());
     }
     if is_taken(links, walk.names, walk.scope, little::u16_at(rec, 1)) {
-        return NAME_TAKEN;
+        return Err(Refusal::NameTaken);
     }
-    if walk.names + 1 < NODES { 0 } else { NO_ROOM }
+    if NODES <= walk.names + 1 {
+        return Err(Refusal::NoRoom);
+    }
+    Ok(())
 }
 
 // Whether one of the first n edges leaves the scope by this id.
+#[tactic(auto, using(crate::proofs::Records::look_up))]
 fn is_taken(links: &[u16; WORDS], n: usize, scope: u16, id: u16) -> bool
     requires { n ≤ max_edges }
     ensures { result ≡ taken_in links.now n scope id }
 {
-    match edges::child(links, n, scope, id) {
-        Reached::At(_) => true,
-        Reached::Nothing => false,
-    }
+    edges::child(links, n, scope, id).is_some()
 }
 
 // Writes the edge of the name that a record declares, if it declares one.
+#[tactic(auto, unfolding(crate::specs::Steps::edges_after))]
 fn put(links: &mut [u16; WORDS], walk: Walk, rec: &[u8])
     requires { (walk.names < max_edges) × (3 * walk.names + 3 ≤ length links.old) }
     ensures { links.new ≡ edges_after links.old walk rec.now }
@@ -171,6 +138,7 @@ fn put(links: &mut [u16; WORDS], walk: Walk, rec: &[u8])
 }
 
 // Behind a record.
+#[tactic(auto, unfolding(crate::specs::Steps::walk_after))]
 fn behind(links: &[u16; WORDS], walk: Walk, rec: &[u8]) -> Walk
     requires { (walk.names < max_edges) × (walk.scope ≤ max_edges) }
     ensures { result ≡ walk_after links.now walk rec.now }
@@ -185,15 +153,12 @@ fn behind(links: &[u16; WORDS], walk: Walk, rec: &[u8]) -> Walk
     }
     if kind == CLOSE_SCOPE {
         return Walk {
-            names: walk.names,
             scope: around(links, walk.scope),
+            ..walk
         };
     }
     if form::declares(kind) {
-        return Walk {
-            names,
-            scope: walk.scope,
-        };
+        return Walk { names, ..walk };
     }
     walk
 }
@@ -206,5 +171,5 @@ fn around(links: &[u16; WORDS], scope: u16) -> u16
     if scope == 0 {
         return 0;
     }
-    links[WIDTH * (scope as usize - 1)]
+    links[WIDTH * (wide(scope) - 1)]
 }

@@ -1,15 +1,17 @@
 -- What the calls come to where a tape's names have room: as many values as names, no number left out. Assumes nothing.
-use mathlib.Core.List.{List, [], ◌∷◌, ◌++◌, map-id}
-use mathlib.Core.Path.{◌≡◌, refl, sym, ap, ◌∙◌}
+use Rattle.std.specs.Prelude.{Option, None}
+use mathlib.Core.List.{List, [], ◌∷◌, ◌++◌, map, map-append}
+use mathlib.Core.Path.{◌≡◌, refl, ap, ◌∙◌}
 use Prim.Native.Nat.{ℕ, zero, suc, ◌-◌, ◌≤◌, ◌<◌}
 use native.Mathlib.Omega.{arith}
 use lib.IntN.{ℤ, pos}
 use lib.ListN.{length, get_or, take, drop, replicate, length-append}
 use lib.Seq.{take_all}
 use Rattle.edges.specs.Edges.{max_nodes}
+use Rattle.symbols.specs.Symbols.{number_or0}
 use Rattle.form.specs.Statements.{What, Instruction, Open, Close, Label, Constant, SetPlace, Byte, Word, Screen, Statement, statements}
 use Rattle.walk.specs.Walk.{names_in}
-use Rattle.walk.specs.Values.{declarations}
+use Rattle.walk.specs.Values.{Values, declarations}
 use Rattle.walk.specs.Numbers.{filled, numbers_by}
 use Rattle.number_list.specs.declared.ByNode.{ByNode}
 use Rattle.number_list.specs.Lists.{counts, count, valued, values_of, listed, number_list}
@@ -66,24 +68,22 @@ list_most (x ∷ xs) l =
     omega (arith, length-append (listed x.says l) (number_list xs rest), listed_most x.says l, list_most xs rest)
 
 -- "the list's numbers, zero behind them"
-gathered_filled : (tape : List ℕ) (number : List ℤ) → declarations (statements tape) < max_nodes
-    → onto (replicate max_nodes (pos 0)) (gathered tape number) ≡ filled max_nodes (pos 0) (number_list (statements tape) (drop 1 number))
+gathered_filled : (tape : List ℕ) (numbers : List (Option ℤ)) → declarations (statements tape) < max_nodes
+    → onto (replicate max_nodes (pos 0)) (gathered tape numbers) ≡ filled max_nodes (pos 0) (number_list (statements tape) (drop 1 (map number_or0 numbers)))
 unfolding gathered
-gathered_filled tape number few =
-    let l = number_list (statements tape) (drop 1 number) in
-    let all : take max_nodes l ≡ l = take_all max_nodes l (omega (arith, list_most (statements tape) (drop 1 number))) in
-    ap (onto (replicate max_nodes (pos 0))) (sym (map-id l))
-    ∙ onto_filled (λ (z : ℤ). z) (pos 0) max_nodes l
-    ∙ ap (filled max_nodes (pos 0)) (map-id (take max_nodes l) ∙ all)
+gathered_filled tape numbers few =
+    let l = number_list (statements tape) (drop 1 (map number_or0 numbers)) in
+    let all : take max_nodes l ≡ l = take_all max_nodes l (omega (arith, list_most (statements tape) (drop 1 (map number_or0 numbers)))) in
+    onto_filled (pos 0) max_nodes l ∙ ap (filled max_nodes (pos 0)) all
 
-pub gather_told : (tape : List ℕ) (number : List ℤ) {n : ℕ} {list list' : List ℤ}
-    → (n ≡ length (gathered tape number)) × (list' ≡ onto list (gathered tape number)) → list ≡ replicate max_nodes (pos 0)
+pub gather_told : (tape : List ℕ) (numbers : List (Option ℤ)) {n : ℕ} {list list' : List ℤ}
+    → (n ≡ length (gathered tape numbers)) × (list' ≡ onto list (gathered tape numbers)) → list ≡ replicate max_nodes (pos 0)
     → declarations (statements tape) < max_nodes
-    → (n ≡ length (number_list (statements tape) (drop 1 number)))
-    × (list' ≡ filled max_nodes (pos 0) (number_list (statements tape) (drop 1 number)))
+    → (n ≡ length (number_list (statements tape) (drop 1 (map number_or0 numbers))))
+    × (list' ≡ filled max_nodes (pos 0) (number_list (statements tape) (drop 1 (map number_or0 numbers))))
 unfolding gathered
-gather_told tape number told clear few =
-    (told.0, told.1 ∙ ap (λ (l : List ℤ). onto l (gathered tape number)) clear ∙ gathered_filled tape number few)
+gather_told tape numbers told clear few =
+    (told.0, told.1 ∙ ap (λ (l : List ℤ). onto l (gathered tape numbers)) clear ∙ gathered_filled tape numbers few)
 
 -- ---- zeros behind the numbers by node change no list: a number past the end is 0
 
@@ -117,3 +117,15 @@ list_zeros (x ∷ xs) l k =
     go Byte same on = same
     go Word same on = same
     go (Screen petscii) same on = same
+
+zeros_of : (k : ℕ) → map number_or0 (replicate k None) ≡ zeros k
+zeros_of zero = refl
+zeros_of (suc k) = ap (λ (l : List ℤ). pos 0 ∷ l) (zeros_of k)
+
+-- the list of the array of these values is that of the values
+pub list_numbers : (xs : List Statement) (L : Values) → number_list xs (drop 1 (map number_or0 (numbers_by L))) ≡ number_list xs (map number_or0 L)
+unfolding numbers_by
+list_numbers xs L =
+    let k = max_nodes - suc (length L) in
+    ap (number_list xs) (map-append number_or0 L (replicate k None) ∙ ap (λ (l : List ℤ). map number_or0 L ++ l) (zeros_of k))
+    ∙ list_zeros xs (map number_or0 L) k

@@ -1,5 +1,5 @@
 -- A list written over memory, one element after the other; and over memory that holds one thing everywhere. Assumes nothing.
-use mathlib.Core.List.{List, [], ◌∷◌, ◌++◌, map}
+use mathlib.Core.List.{List, [], ◌∷◌, ◌++◌}
 use mathlib.Core.Path.{◌≡◌, refl, ap, ◌∙◌}
 use Prim.Native.Nat.{ℕ, zero, suc, ◌-◌}
 use native.Mathlib.Omega.{arith}
@@ -31,12 +31,10 @@ module _ {A : Type 0} where
   onto_same (suc n) a (x ∷ l) = ap (λ (y : List A). x ∷ y) (onto_same n a l)
 
 -- over the same everywhere: as much as there is room for, padded
-pub onto_filled : {A B : Type 0} (f : A → B) (b : B) (n : ℕ) (l : List A)
-    → onto (replicate n b) (map f l) ≡ filled n b (map f (take n l))
-onto_filled f b zero l = refl
-onto_filled {A} {B} f b (suc n) [] =
-    let all : suc n ≡ suc n - 0 = omega arith in ap (λ (k : ℕ). replicate k b) all
-onto_filled {A} {B} f b (suc n) (a ∷ l) =
-    let k = length (map f (take n l)) in
+pub onto_filled : {A : Type 0} (b : A) (n : ℕ) (l : List A) → onto (replicate n b) l ≡ filled n b (take n l)
+onto_filled b zero l = refl
+onto_filled b (suc n) [] = let all : suc n ≡ suc n - 0 = omega arith in ap (λ (k : ℕ). replicate k b) all
+onto_filled {A} b (suc n) (a ∷ l) =
+    let k = length (take n l) in
     let less : n - k ≡ suc n - suc k = omega arith in
-    ap (λ (x : List B). f a ∷ x) (onto_filled f b n l ∙ ap (λ (j : ℕ). map f (take n l) ++ replicate j b) less)
+    ap (λ (x : List A). a ∷ x) (onto_filled b n l ∙ ap (λ (j : ℕ). take n l ++ replicate j b) less)

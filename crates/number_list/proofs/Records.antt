@@ -1,7 +1,7 @@
 -- A record more: what it says by its kind, and what it adds to what comes behind it. Assumes nothing.
+use Rattle.std.specs.Prelude.{None, Some}
 use mathlib.Core.Bool.{Bool, true, false}
 use mathlib.Core.List.{List, [], ◌∷◌}
-use mathlib.Core.Option.{none, some}
 use mathlib.Core.Path.{◌≡◌, refl, sym, ap, ◌∙◌, subst}
 use Prim.Native.Nat.{ℕ, ◌+◌}
 use native.Mathlib.Omega.{arith}
@@ -24,7 +24,7 @@ use Rattle.number_list.specs.Lists.{counts, valued, listed}
 
 -- t: it is a label or a constant; d: it declares a name
 abbrev pub valued_by : (t d : Bool) → List ℤ → Values
-valued_by t d l = pick t (some (get_or l 0 (pos 0)) ∷ []) (pick d (none ∷ []) [])
+valued_by t d l = pick t (Some (get_or l 0 (pos 0)) ∷ []) (pick d (None ∷ []) [])
 
 abbrev pub listed_by : (t : Bool) → List ℤ → List ℤ
 listed_by t l = pick t (get_or l 0 (pos 0) ∷ []) []
@@ -48,7 +48,7 @@ module _ (r : List ℕ) (k : ℕ) (is : k ≡ get_or r 0 0) where
   valued_said l =
       rw (said r k is)
       (by_kind r (λ n x. valued x l ≡ valued_by (is_numbered n) (declares n) l) refl refl refl refl refl refl refl refl
-      (λ n e. at_false (none ∷ []) [] e ∙ at_false _ _ (numbered_declares n e)) k)
+      (λ n e. at_false (None ∷ []) [] e ∙ at_false _ _ (numbered_declares n e)) k)
 
   pub listed_said : (l : List ℤ) → listed (what_of r) l ≡ listed_by (is_numbered k) l
   unfolding is_numbered

@@ -1,7 +1,6 @@
 -- Number lists: one number for each label and constant of a tape. Document 01: "Number lists are in tape order". Assumes nothing: these
 -- are definitions.
-use Rattle.std.specs.Prelude.{ℕ, ◌+◌, List, [], ◌∷◌, ◌++◌, ℤ, pos, get_or, drop}
-use Rattle.std.proofs.Math.Option.{none, some}
+use Rattle.std.specs.Prelude.{ℕ, ◌+◌, List, [], ◌∷◌, ◌++◌, ℤ, pos, get_or, drop, None, Some}
 use Rattle.form.specs.Statements.{What, Instruction, Open, Close, Label, Constant, SetPlace, Byte, Word, Screen, Statement}
 use Rattle.walk.specs.Walk.{names_in}
 use Rattle.walk.specs.Values.{Values}
@@ -29,9 +28,9 @@ count (x ∷ xs) = counts x.says + count xs
 
 -- the value of the name a statement declares: a label or a constant takes the next number of the list, a scope takes none
 abbrev pub valued : What → List ℤ → Values
-valued (Label id) l = some (get_or l 0 (pos 0)) ∷ []
-valued (Constant id) l = some (get_or l 0 (pos 0)) ∷ []
-valued (Open id) l = none ∷ []
+valued (Label id) l = Some (get_or l 0 (pos 0)) ∷ []
+valued (Constant id) l = Some (get_or l 0 (pos 0)) ∷ []
+valued (Open id) l = None ∷ []
 valued Close l = []
 valued (Instruction mnemonic mode suffix) l = []
 valued SetPlace l = []

@@ -2,18 +2,18 @@
 // check spreads one over the nodes. Total: a number past an end is 0, and what has no room is left out.
 #![tactic(auto)]
 
-ghost use Rattle.std.specs.Prelude.{true, false, ◌≡◌, ◌+◌, ◌<◌, ◌^◌, pos, length, get_or, set, replicate};
+ghost use Rattle.std.specs.Prelude.{Some, None, ◌≡◌, ◌+◌, ◌<◌, ◌^◌, pos, length, get_or, set, replicate};
 ghost use Rattle.refusals.specs.Answer.{pick};
 ghost use Rattle.edges.specs.Edges.{max_nodes};
+ghost use Rattle.symbols.specs.Symbols.{number_or0};
 ghost use Rattle.form.specs.Form.{is_numbered};
 ghost use Rattle.number_list.specs.Calls.{onto, gathered, spread_of};
 ghost use Rattle.number_list.specs.Steps.{put_in};
 
-use symbols::NODES;
-use walk::Numbers;
+use symbols::{NODES, Numbers};
 
 // How many numbers a list has for a tape, and the numbers by node.
-#[derive(Clone, Copy)]
+#[derive(Clone, Copy, Debug, PartialEq, Eq)]
 pub struct ByNode {
     pub count: usize,
     pub numbers: Numbers,
@@ -23,28 +23,25 @@ pub struct ByNode {
 pub fn clear(list: &mut [i64])
     ensures { list.new ≡ replicate (length list.old) (pos 0) }
 {
-    let mut i: usize = 0;
-    while i < list.len() {
-        list[i] = 0;
-        i += 1;
-    }
+    list.fill(0);
 }
 
-// Writes the numbers of a tape's labels and constants, taken by node, into a list, and gives how many they are.
-pub fn gather<'a>(tape: &'a [u8], number: &'a [i64], list: &mut [i64]) -> usize
-    ensures { (result ≡ length (gathered tape.now number.now))
-        × (list.new ≡ onto list.old (gathered tape.now number.now)) }
+// Writes the numbers of a tape's labels and constants, taken by node, into a list, and gives how many they are. A node without one gives 0.
+pub fn gather<'a>(tape: &'a [u8], numbers: &'a [Option<i64>], list: &mut [i64]) -> usize
+    ensures { (result ≡ length (gathered tape.now numbers.now))
+        × (list.new ≡ onto list.old (gathered tape.now numbers.now)) }
 {
     let mut names: usize = 0;
     let mut count: usize = 0;
     let mut at: usize = 0;
+    // A record's length is the step of this walk: no index is counted.
     while at < tape.len() {
         let rec = tape::record(tape, at);
         if form::is_last(rec) {
             return count;
         }
         let kind = little::u8_at(rec, 0);
-        count = listed(kind, number, names, list, count);
+        count = listed(kind, numbers, names, list, count);
         names += form::names_in(kind);
         at += rec.len();
     }
@@ -52,13 +49,14 @@ pub fn gather<'a>(tape: &'a [u8], number: &'a [i64], list: &mut [i64]) -> usize
 }
 
 // The list with the number of the next node, where a record of this kind has one; and how many numbers it has then.
-fn listed(kind: u8, number: &[i64], names: usize, list: &mut [i64], count: usize) -> usize
+#[tactic(auto, unfolding(crate::specs::Steps::put_in))]
+fn listed(kind: u8, numbers: &[Option<i64>], names: usize, list: &mut [i64], count: usize) -> usize
     requires { (names < 2 ^ 63) × (count < 2 ^ 63) }
     ensures { (result ≡ pick (is_numbered kind) (count + 1) count)
-        × (list.new ≡ put_in list.old count kind (get_or number.now (names + 1) (pos 0))) }
+        × (list.new ≡ put_in list.old count kind (number_or0 (get_or numbers.now (names + 1) None))) }
 {
     if form::is_numbered(kind) {
-        put(list, count, number_at(number, names + 1));
+        put(list, count, number_of(numbers, names + 1));
         return count + 1;
     }
     count
@@ -68,32 +66,28 @@ fn listed(kind: u8, number: &[i64], names: usize, list: &mut [i64], count: usize
 pub fn spread<'a>(tape: &'a [u8], list: &'a [i64]) -> ByNode
     ensures { result ≡ spread_of tape.now list.now }
 {
-    let mut known = [false; NODES];
-    let mut number = [0i64; NODES];
-    let count = spread_into(tape, list, &mut known, &mut number);
-    ByNode {
-        count,
-        numbers: Numbers { known, number },
-    }
+    let mut numbers = [None; NODES];
+    let count = spread_into(tape, list, &mut numbers);
+    ByNode { count, numbers }
 }
 
-// The same, into lent arrays that say of no node that it has a number.
-fn spread_into<'a>(tape: &'a [u8], list: &'a [i64], known: &mut [bool], number: &mut [i64]) -> usize
-    requires { (known.old ≡ replicate max_nodes false) × (number.old ≡ replicate max_nodes (pos 0)) }
+// The same, into a lent array that says of no node that it has a number.
+fn spread_into<'a>(tape: &'a [u8], list: &'a [i64], numbers: &mut [Option<i64>]) -> usize
+    requires { numbers.old ≡ replicate max_nodes None }
     ensures { (result ≡ (spread_of tape.now list.now).count)
-        × (known.new ≡ (spread_of tape.now list.now).numbers.known)
-        × (number.new ≡ (spread_of tape.now list.now).numbers.number) }
+        × (numbers.new ≡ (spread_of tape.now list.now).numbers) }
 {
     let mut names: usize = 0;
     let mut count: usize = 0;
     let mut at: usize = 0;
+    // A record's length is the step of this walk: no index is counted.
     while at < tape.len() {
         let rec = tape::record(tape, at);
         if form::is_last(rec) {
             return count;
         }
         let kind = little::u8_at(rec, 0);
-        count = valued(kind, list, count, names, known, number);
+        count = valued(kind, list, count, names, numbers);
         names += form::names_in(kind);
         at += rec.len();
     }
@@ -101,22 +95,14 @@ fn spread_into<'a>(tape: &'a [u8], list: &'a [i64], known: &mut [bool], number: 
 }
 
 // The next node with the next number of a list, where a record of this kind has one; and how many numbers were taken then.
-fn valued(
-    kind: u8,
-    list: &[i64],
-    count: usize,
-    names: usize,
-    known: &mut [bool],
-    number: &mut [i64],
-) -> usize
+#[tactic(auto, unfolding(crate::specs::Steps::put_in))]
+fn valued(kind: u8, list: &[i64], count: usize, names: usize, numbers: &mut [Option<i64>]) -> usize
     requires { (names < 2 ^ 63) × (count < 2 ^ 63) }
     ensures { (result ≡ pick (is_numbered kind) (count + 1) count)
-        × (known.new ≡ put_in known.old (names + 1) kind true)
-        × (number.new ≡ put_in number.old (names + 1) kind (get_or list.now count (pos 0))) }
+        × (numbers.new ≡ put_in numbers.old (names + 1) kind (Some (get_or list.now count (pos 0)))) }
 {
     if form::is_numbered(kind) {
-        mark(known, names + 1);
-        put(number, names + 1, number_at(list, count));
+        put(numbers, names + 1, Some(number_at(list, count)));
         return count + 1;
     }
     count
@@ -126,23 +112,21 @@ fn valued(
 fn number_at(list: &[i64], i: usize) -> i64
     ensures { result ≡ get_or list.now i (pos 0) }
 {
-    if i < list.len() { list[i] } else { 0 }
+    list.get(i).copied().unwrap_or(0)
 }
 
-// Puts a number at that index; past the end, nothing.
-fn put(list: &mut [i64], i: usize, number: i64)
-    ensures { list.new ≡ set list.old i number }
+// The number of that node, or 0 where it has none and past the end.
+fn number_of(numbers: &[Option<i64>], node: usize) -> i64
+    ensures { result ≡ number_or0 (get_or numbers.now node None) }
+{
+    numbers.get(node).copied().flatten().unwrap_or(0)
+}
+
+// Puts something at that index; past the end, nothing.
+fn put<T: Copy>(list: &mut [T], i: usize, x: T)
+    ensures { list.new ≡ set list.old i x }
 {
     if i < list.len() {
-        list[i] = number;
-    }
-}
-
-// Says of the node of that index that it has a number; past the end, nothing.
-fn mark(known: &mut [bool], i: usize)
-    ensures { known.new ≡ set known.old i true }
-{
-    if i < known.len() {
-        known[i] = true;
+        list[i] = x;
     }
 }

@@ -2,7 +2,7 @@
 // one behind what it laid. What has no room is left out.
 #![tactic(auto)]
 
-ghost use Rattle.std.specs.Prelude.{◌&&◌, [], ◌∷◌, ◌≡◌, ◌-◌, ◌≤◌, ◌<◌, ltb, leb};
+ghost use Rattle.std.specs.Prelude.{◌&&◌, [], ◌∷◌, ◌≡◌, ◌≤◌, ◌<◌, ltb, leb};
 ghost use Rattle.hexadecimal.specs.Hex.{digit_of};
 ghost use Rattle.page.specs.Page.{laid};
 ghost use Rattle.numerals.specs.Numerals.{numeral, place_text, decimal};
@@ -32,6 +32,7 @@ pub fn put_decimal(text: &mut [u8], at: usize, most: usize, n: usize) -> usize
 }
 
 // A number to a base, of at most and at least so many digits: those of its quotient by the base, then its remainder.
+#[tactic(auto, using(page::proofs::Laying::nothing_laid))]
 fn put_numeral(
     most: usize,
     base: usize,
@@ -49,7 +50,7 @@ fn put_numeral(
     if is_digit(n, base, least) {
         return put_digit(text, at, n);
     }
-    let end = put_numeral(most - 1, base, one_less(least), n / base, text, at);
+    let end = put_numeral(most - 1, base, least.saturating_sub(1), n / base, text, at);
     put_digit(text, end, n % base)
 }
 
@@ -57,17 +58,7 @@ fn put_numeral(
 fn is_digit(n: usize, base: usize, least: usize) -> bool
     ensures { result ≡ (ltb n base && leb least 1) }
 {
-    if base <= n {
-        return false;
-    }
-    least <= 1
-}
-
-// The number before, of which 0 has none.
-fn one_less(n: usize) -> usize
-    ensures { result ≡ n - 1 }
-{
-    if n == 0 { 0 } else { n - 1 }
+    n < base && least <= 1
 }
 
 // A digit.

@@ -17,11 +17,6 @@ use Rattle.opcodes.proofs.Table.{at_triple}
 
 -- ---- the words of a mnemonic
 
--- m is the n-th
-pub words_at : {m : ℕ} (n : ℕ) → m ≡ n → (shapes_in (get_or pages n []) ≡ shapes_of m) × (opcodes_in (get_or pages n []) ≡ opcodes_of m)
-unfolding shapes_of opcodes_of
-words_at n e = (sym (ap shapes_of e), sym (ap opcodes_of e))
-
 -- none of the first n numbers, as a match leaves it to its last arm
 abbrev NoneBelow : ℕ → ℕ → Type 0
 NoneBelow m zero = Unit {0}

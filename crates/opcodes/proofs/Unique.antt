@@ -1,15 +1,13 @@
 -- Each public call allows one answer: the law of `refusals`, applied to each call's own contract. Assumes nothing.
 use mathlib.Core.Path.{◌≡◌, refl}
 use mathlib.Core.List.{List, [], ◌∷◌}
-use Rattle.refusals.specs.Answer.{Answer, Done, Refused}
+use Rattle.refusals.specs.Says.{says}
 use Rattle.refusals.proofs.Unique.{OneResult, same, told_apart}
+use Rattle.refusals.proofs.One.{back, back_says}
 use Rattle.opcodes.specs.declared.Form.{Form}
 use Rattle.opcodes.specs.declared.Forms as Fs
 use Rattle.opcodes.specs.declared.Forms.TheVariants as forms
-use Rattle.opcodes.specs.declared.Code.{Code}
-use Rattle.opcodes.specs.declared.Encoded as E
-use Rattle.opcodes.specs.declared.Encoded.TheVariants as encoded
-use Rattle.opcodes.specs.Says.{listed, says_encoded}
+use Rattle.opcodes.specs.Says.{listed}
 use Rattle.opcodes.proofs.in_range.Reads as in_range_lem
 use Rattle.opcodes.proofs.forms_of.Reads as forms-of
 use Rattle.opcodes.proofs.is_branch.Reads as is-branch
@@ -17,7 +15,7 @@ use Rattle.opcodes.proofs.length.Reads as length
 use Rattle.opcodes.proofs.takes.Reads as takes
 use Rattle.opcodes.proofs.encode.Reads as encode
 
--- ---- the case that says this, for each answer
+-- ---- the case that lists these forms
 
 abbrev unlisted : List Form → Fs.Forms
 unlisted [] = forms.None
@@ -28,14 +26,6 @@ unlisted_listed : (x : Fs.Forms) → unlisted (listed x) ≡ x
 unlisted_listed forms.None = refl
 unlisted_listed (forms.One f) = refl
 unlisted_listed (forms.Two f g) = refl
-
-abbrev as_encoded : Answer Code → E.Encoded
-as_encoded (Done c) = encoded.Bytes c
-as_encoded (Refused n) = encoded.Refused n
-
-as_encoded_says : (x : E.Encoded) → as_encoded (says_encoded x) ≡ x
-as_encoded_says (encoded.Bytes c) = refl
-as_encoded_says (encoded.Refused n) = refl
 
 -- ---- the calls
 
@@ -55,4 +45,4 @@ pub takes_one : OneResult takes.Post
 takes_one k a x y e f p q = same p q
 
 pub encode_one : OneResult encode.Post
-encode_one k a x y e f p q = told_apart says_encoded as_encoded as_encoded_says p q
+encode_one k a x y e f p q = told_apart says back back_says p q

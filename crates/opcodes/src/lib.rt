@@ -6,23 +6,24 @@ mod tables;
 
 ghost use Rattle.std.specs.Prelude.{◌≡◌, ◌∷◌, [], ◌<◌};
 ghost use Rattle.refusals.specs.Answer.{mapped};
+ghost use Rattle.refusals.specs.Says.{says};
 ghost use Rattle.opcodes.specs.Manual.{forms_of, is_branch};
 ghost use Rattle.opcodes.specs.Encode.{length_of, takes, bytes_of, tried, in_range, encode_of, code};
 ghost use Rattle.opcodes.specs.Packed.{digit_of};
-ghost use Rattle.opcodes.specs.Says.{listed, says_encoded};
+ghost use Rattle.opcodes.specs.Says.{listed};
 
-use refusals::{ARGUMENT, NO_ROW, TOO_SMALL};
+use refusals::Refusal;
 use tables::{BYTES, Words};
 
 // An opcode, and how many operand bytes stand behind it.
-#[derive(Clone, Copy)]
+#[derive(Clone, Copy, Debug, PartialEq, Eq)]
 pub struct Form {
     pub opcode: u8,
     pub operand: u8,
 }
 
-// A row's forms, in the order tried.
-#[derive(Clone, Copy)]
+// A row's forms, in the order tried: up to two, where an `Option` has up to one.
+#[derive(Clone, Copy, Debug, PartialEq, Eq)]
 pub enum Forms {
     None,
     One(Form),
@@ -30,19 +31,12 @@ pub enum Forms {
 }
 
 // How many bytes, and the bytes, zero behind them.
-#[derive(Clone, Copy)]
+#[derive(Clone, Copy, Debug, PartialEq, Eq)]
 pub struct Code {
     pub len: u8,
     pub b0: u8,
     pub b1: u8,
     pub b2: u8,
-}
-
-// An instruction's bytes, or a refusal.
-#[derive(Clone, Copy)]
-pub enum Encoded {
-    Bytes(Code),
-    Refused(u8),
 }
 
 const MNEMONICS: u8 = 56;
@@ -74,15 +68,11 @@ const BYTE_VALUES: u64 = 256;
 const SECOND: u8 = 8;
 
 // Whether a mnemonic, a mode and a suffix are in document 01's ranges.
+#[tactic(auto, unfolding(crate::specs::Encode::in_range))]
 pub fn in_range(mnemonic: u8, mode: u8, suffix: u8) -> bool
     ensures { result ≡ in_range mnemonic mode suffix }
 {
-    if mnemonic < MNEMONICS {
-        if mode < MODES {
-            return suffix < SUFFIXES;
-        }
-    }
-    false
+    mnemonic < MNEMONICS && mode < MODES && suffix < SUFFIXES
 }
 
 // The digit of a column in a packed word.
@@ -139,6 +129,7 @@ pub fn length(form: Form) -> usize
 }
 
 // Whether a form takes an operand: the one-byte form only one below 256.
+#[tactic(auto, unfolding(crate::specs::Encode::takes))]
 pub fn takes(form: Form, operand: i64) -> bool
     ensures { result ≡ takes form operand }
 {
@@ -180,30 +171,31 @@ fn coded(form: Form, operand: i64) -> Code
 }
 
 // The bytes of a row's last form, if it takes the operand.
-fn tried(form: Form, operand: i64) -> Encoded
+#[tactic(auto, unfolding(crate::specs::Encode::takes))]
+fn tried(form: Form, operand: i64) -> Result<Code, Refusal>
     requires { form.operand < 3 }
-    ensures { says_encoded result ≡ mapped code (tried (form ∷ []) operand) }
+    ensures { says result ≡ mapped code (tried (form ∷ []) operand) }
 {
     if takes(form, operand) {
-        Encoded::Bytes(coded(form, operand))
+        Ok(coded(form, operand))
     } else {
-        Encoded::Refused(TOO_SMALL)
+        Err(Refusal::TooSmall)
     }
 }
 
 // The bytes of an instruction: of the first of its row's forms that takes the operand.
-pub fn encode(mnemonic: u8, mode: u8, suffix: u8, operand: i64) -> Encoded
-    ensures { says_encoded result ≡ mapped code (encode_of mnemonic mode suffix operand) }
+pub fn encode(mnemonic: u8, mode: u8, suffix: u8, operand: i64) -> Result<Code, Refusal>
+    ensures { says result ≡ mapped code (encode_of mnemonic mode suffix operand) }
 {
     if !in_range(mnemonic, mode, suffix) {
-        return Encoded::Refused(ARGUMENT);
+        return Err(Refusal::Argument);
     }
     match forms_of(mnemonic, mode, suffix) {
-        Forms::None => Encoded::Refused(NO_ROW),
+        Forms::None => Err(Refusal::NoRow),
         Forms::One(form) => tried(form, operand),
         Forms::Two(short, long) => {
             if takes(short, operand) {
-                Encoded::Bytes(coded(short, operand))
+                Ok(coded(short, operand))
             } else {
                 tried(long, operand)
             }

@@ -8,13 +8,14 @@ ghost use Rattle.opcodes.specs.Packed.{shapes_of, opcodes_of};
 // bytes; 4 a form of one and a form of two operand bytes, whose opcode is 8 more.
 // Opcodes, in eight bytes: Implied, Immediate, AbsoluteOrZp, AbsoluteOrZp X, AbsoluteOrZp Y, Indirect X, OuterIndirect, OuterIndirect Y.
 // Where a row has two forms, the shorter form's.
-#[derive(Clone, Copy)]
+#[derive(Clone, Copy, Debug, PartialEq, Eq)]
 pub struct Words(pub u64, pub u64);
 
 // Which byte of the opcodes a mode and suffix have, counted from the right, in digits as shapes are; 0 for those that no row has.
 pub const BYTES: u64 = 0x700_600_543_020_100;
 
 // The words of a mnemonic.
+#[tactic(auto, unfolding(crate::specs::Packed::shapes_of, crate::specs::Packed::opcodes_of))]
 pub fn words_of(mnemonic: u8) -> Words
     ensures { (result.0 ≡ shapes_of mnemonic) × (result.1 ≡ opcodes_of mnemonic) }
 {

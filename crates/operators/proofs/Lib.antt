@@ -1,4 +1,3 @@
--- The laws that the proofs of this crate share, that the operators refuse with 10 alone, and that each public call allows one answer.
-pub mod Laws
+-- That the operators refuse with 10 alone, and that each public call allows one answer.
 pub mod Refusing
 pub mod Unique

@@ -1,7 +1,7 @@
 -- Each public call allows one answer: the law of `refusals`, applied to each call's own contract. Assumes nothing.
 use Rattle.refusals.proofs.Unique.{OneResult, same, told_apart}
-use Rattle.int64.specs.Says.{says}
-use Rattle.int64.proofs.Unique.{back, back_says}
+use Rattle.refusals.specs.Says.{says}
+use Rattle.refusals.proofs.One.{back, back_says}
 use Rattle.operators.proofs.eq.Reads as eq
 use Rattle.operators.proofs.ne.Reads as ne
 use Rattle.operators.proofs.gt.Reads as gt

@@ -1,6 +1,4 @@
 -- What is laid, what is left to lay, runs that are compared, and that each public call allows one answer.
 pub mod Laying
-pub mod Digits
 pub mod Rests
-pub mod Sameness
 pub mod Unique

@@ -1,7 +1,6 @@
 -- Bytes that are laid one behind the other into lent memory, and tapes as document 01 writes them. Assumes nothing: these are
 -- definitions.
-use Rattle.std.specs.Prelude.{ℕ, zero, suc, ◌+◌, ◌-◌, ◌*◌, Bool, true, false, ◌&&◌, List, [], ◌∷◌, ◌++◌, eqb, leb, length, take}
-use Rattle.std.proofs.Math.Option.{Option, none, some}
+use Rattle.std.specs.Prelude.{ℕ, zero, suc, ◌+◌, ◌-◌, ◌*◌, Bool, true, false, ◌&&◌, List, [], ◌∷◌, ◌++◌, eqb, leb, length, take, Option, None, Some}
 use Rattle.refusals.specs.Answer.{pick}
 use Rattle.refusals.specs.Memory.{over}
 
@@ -34,19 +33,19 @@ same (c ∷ cs) (d ∷ ds) = eqb c d && same cs ds
 -- a digit, 0 to 9 or a to f, by its ASCII code; none for anything else
 abbrev pub digit_in : ℕ → Option ℕ
 digit_in c =
-    pick (leb 0x30 c && leb c 0x39) (some (c - 0x30))
-    (pick (leb 0x61 c && leb c 0x66) (some (c - 0x61 + 10)) none)
+    pick (leb 0x30 c && leb c 0x39) (Some (c - 0x30))
+    (pick (leb 0x61 c && leb c 0x66) (Some (c - 0x61 + 10)) None)
 
 -- the byte of two digits, if both are
 abbrev pub pair : Option ℕ → Option ℕ → List ℕ
-pair none low = []
-pair (some high) none = []
-pair (some high) (some low) = (16 * high + low) ∷ []
+pair None low = []
+pair (Some high) None = []
+pair (Some high) (Some low) = (16 * high + low) ∷ []
 
 -- the digit that the next one may follow: none where this one was a second
 abbrev pub following : Option ℕ → Option ℕ → Option ℕ
-following none this = this
-following (some high) this = none
+following None this = this
+following (Some high) this = None
 
 -- the bytes of a text, behind the first digit of a pair or behind none: what is no digit stands between two bytes
 abbrev pub bytes_behind : Option ℕ → List ℕ → List ℕ
@@ -54,4 +53,4 @@ bytes_behind high [] = []
 bytes_behind high (c ∷ cs) = pair high (digit_in c) ++ bytes_behind (following high (digit_in c)) cs
 
 unfoldable pub bytes_in : List ℕ → List ℕ
-bytes_in text = bytes_behind none text
+bytes_in text = bytes_behind None text

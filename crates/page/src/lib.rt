@@ -2,11 +2,11 @@
 // begins, and gives the one behind what it laid. What has no room is left out.
 #![tactic(auto)]
 
-ghost use Rattle.std.specs.Prelude.{[], ◌∷◌, ◌≡◌, take};
+ghost use Rattle.std.specs.Prelude.{[], ◌∷◌, ◌≡◌, ◌<◌, take, IfSome};
 ghost use Rattle.page.specs.Page.{laid, repeated, same, digit_in, pair, following, bytes_in};
-ghost use Rattle.page.specs.Steps.{below16};
 
 // One byte.
+#[tactic(auto, using(crate::proofs::Laying::no_room_lem, crate::proofs::Laying::one_laid))]
 pub fn put(bytes: &mut [u8], at: usize, byte: u8) -> usize
     ensures { (result, bytes.new) ≡ laid bytes.old at (byte ∷ []) }
 {
@@ -22,10 +22,8 @@ pub fn put_all(bytes: &mut [u8], from: usize, piece: &[u8]) -> usize
     ensures { (result, bytes.new) ≡ laid bytes.old from piece.now }
 {
     let mut at = from;
-    let mut i = 0;
-    while i < piece.len() {
-        at = put(bytes, at, piece[i]);
-        i += 1;
+    for byte in piece {
+        at = put(bytes, at, *byte);
     }
     at
 }
@@ -35,10 +33,8 @@ pub fn put_often(bytes: &mut [u8], from: usize, piece: &[u8], times: usize) -> u
     ensures { (result, bytes.new) ≡ laid bytes.old from (repeated times piece.now) }
 {
     let mut at = from;
-    let mut left = times;
-    while left > 0 {
+    for i in 0..times {
         at = put_all(bytes, at, piece);
-        left -= 1;
     }
     at
 }
@@ -49,70 +45,60 @@ pub fn put_hex(bytes: &mut [u8], from: usize, text: &[u8]) -> usize
     ensures { (result, bytes.new) ≡ laid bytes.old from (bytes_in text.now) }
 {
     let mut at = from;
-    let mut high = 16;
-    let mut i = 0;
-    while i < text.len() {
-        let low = digit(text[i]);
+    let mut high = None;
+    for letter in text {
+        let low = digit(*letter);
         at = put_pair(bytes, at, high, low);
         high = next_high(high, low);
-        i += 1;
     }
     at
 }
 
-// A digit as a number; anything else as 16.
-fn digit(letter: u8) -> u8
-    ensures { below16 result ≡ digit_in letter }
+// A digit as a number; anything else as none.
+fn digit(letter: u8) -> Option<u8>
+    ensures value { result ≡ digit_in letter }
+    ensures small { IfSome result (λ d. d < 16) }
 {
     match letter {
-        b'0'..=b'9' => letter - b'0',
-        b'a'..=b'f' => letter - b'a' + 10,
-        _ => 16,
+        b'0'..=b'9' => Some(letter - b'0'),
+        b'a'..=b'f' => Some(letter - b'a' + 10),
+        _ => None,
     }
 }
 
 // The byte of two digits, if they are two.
-fn put_pair(bytes: &mut [u8], at: usize, high: u8, low: u8) -> usize
-    ensures { (result, bytes.new) ≡ laid bytes.old at (pair (below16 high) (below16 low)) }
+#[tactic(auto, using(crate::proofs::Laying::nothing_laid))]
+fn put_pair(bytes: &mut [u8], at: usize, high: Option<u8>, low: Option<u8>) -> usize
+    requires high_small { IfSome high (λ d. d < 16) }
+    requires low_small { IfSome low (λ d. d < 16) }
+    ensures { (result, bytes.new) ≡ laid bytes.old at (pair high low) }
 {
-    if high < 16 {
-        if low < 16 {
-            return put(bytes, at, 16 * high + low);
-        }
+    match (high, low) {
+        (Some(high), Some(low)) => put(bytes, at, 16 * high + low),
+        _ => at,
     }
-    at
 }
 
 // The digit before the next one: none where it has been used.
-fn next_high(high: u8, low: u8) -> u8
-    ensures { below16 result ≡ following (below16 high) (below16 low) }
+fn next_high(high: Option<u8>, low: Option<u8>) -> Option<u8>
+    ensures { result ≡ following high low }
 {
-    if high < 16 { 16 } else { low }
+    match high {
+        None => low,
+        Some(_) => None,
+    }
 }
 
 // The first so many bytes, or all.
 pub fn cut(bytes: &[u8], count: usize) -> &[u8]
     ensures { result.now ≡ take count bytes.now }
 {
-    if bytes.len() < count {
-        return bytes;
-    }
-    &bytes[0..count]
+    &bytes[..bytes.len().min(count)]
 }
 
 // Whether two runs of bytes are the same.
 pub fn is_same(one: &[u8], other: &[u8]) -> bool
     ensures { result ≡ same one.now other.now }
 {
-    if one.len() != other.len() {
-        return false;
-    }
-    let mut i = 0;
-    while i < one.len() {
-        if one[i] != other[i] {
-            return false;
-        }
-        i += 1;
-    }
-    true
+    one == other
 }

@@ -1,7 +1,7 @@
 -- Two readings that agree at the expression of every statement come to the same passes. Assumes nothing.
+use Rattle.std.specs.Prelude.{Option, None, Some}
 use mathlib.Core.Bool.{Bool}
 use mathlib.Core.List.{List, [], ◌∷◌, ◌++◌}
-use mathlib.Core.Option.{Option, none, some}
 use mathlib.Core.Path.{◌≡◌, refl, ap, ◌∙◌}
 use Prim.Native.Nat.{ℕ, zero, suc, ◌-◌}
 use lib.IntN.{ℤ}
@@ -37,8 +37,8 @@ module _ (r s : (ℕ → Option ℤ) → ℤ → ℕ → Value) where
     repeats_alike i n = same eq_value (passes_alike n i) (passes_alike (n - 1) i)
 
     settled_by_lem : (a : Option ℕ) → settled_by r xs o a ≡ settled_by s xs o a
-    settled_by_lem none = refl
-    settled_by_lem (some n) = ap (λ (L : Values). Fine (n, L)) (passes_alike n)
+    settled_by_lem None = refl
+    settled_by_lem (Some n) = ap (λ (L : Values). Fine (n, L)) (passes_alike n)
 
     pub settled_alike : settled r xs o ≡ settled s xs o
     unfolding settled

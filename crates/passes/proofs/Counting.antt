@@ -6,7 +6,7 @@ use Prim.Native.Nat.{ℕ, ◌+◌, ◌≤◌, ◌<◌}
 use native.Mathlib.Omega.{arith}
 use lib.Dec.{leb, ltb}
 use lib.ListN.{length, get_or}
-use borrow.Author.Tests.{ltb-true, le-leb, lt-leb, leb-true}
+use borrow.Author.Tests.{ltb-true, le-leb, leb-true}
 use Rattle.refusals.specs.Answer.{pick}
 use Rattle.refusals.proofs.Never.{never}
 use Rattle.edges.specs.Edges.{max_nodes}
@@ -53,18 +53,6 @@ module _ {tape : List ℕ} {n at : ℕ} (h : Counted tape n at) where
 -- ---- whether a tape and an initial place are allowed
 
 module _ (tape : List ℕ) (initial : ℕ) where
-  pub too_long : max_tape < length tape → false ≡ is_allowed tape initial
-  unfolding is_allowed
-  too_long h = rw (lt-leb (length tape) max_tape h)
-
-  pub too_far_lem : 65536 < initial → false ≡ is_allowed tape initial
-  unfolding is_allowed
-  too_far_lem h = go (leb (length tape) max_tape)
-    where
-      go : (t : Bool) → false ≡ (t && leb initial 65536 && ltb (declarations (statements tape)) max_nodes)
-      go true = rw (lt-leb initial 65536 h)
-      go false = refl
-
   pub allowed_by : length tape ≤ max_tape → initial ≤ 65536 → {n : ℕ} → n ≡ declarations (statements tape)
       → ltb n max_nodes ≡ is_allowed tape initial
   unfolding is_allowed

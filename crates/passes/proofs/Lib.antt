@@ -1,8 +1,6 @@
--- Laws of what records say, of values, arrays and the walks over a tape; what settles, and which readings come to the same; and that
--- each public call allows one answer.
+-- Laws of what records say and of the walks over a tape; what settles, and which readings come to the same; and that each public call
+-- allows one answer.
 pub mod Records
-pub mod Values
-pub mod Arrays
 pub mod Counting
 pub mod Passing
 pub mod First

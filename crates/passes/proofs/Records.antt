@@ -1,13 +1,12 @@
 -- The walk behind a record. Assumes nothing.
-use mathlib.Core.Bool.{Bool, true, false}
+use Rattle.std.specs.Prelude.{Option}
+use mathlib.Core.Bool.{Bool, false}
 use mathlib.Core.List.{List}
-use mathlib.Core.Option.{Option}
-use mathlib.Core.Path.{◌≡◌, sym, ◌∙◌}
+use mathlib.Core.Path.{◌≡◌, ◌∙◌}
 use Prim.Native.Nat.{ℕ, ◌+◌}
 use lib.IntN.{ℤ}
 use lib.ListN.{get_or}
 use Rattle.refusals.specs.Answer.{pick}
-use Rattle.refusals.proofs.Pick.{at_true}
 use Rattle.form.specs.Form.{declares}
 use Rattle.form.specs.Statements.{what_of, is_inner}
 use Rattle.walk.specs.declared.Walk.{Walk}
@@ -16,10 +15,6 @@ use Rattle.walk.proofs.Records.{names_said}
 use Rattle.passes.specs.Steps.{step_over}
 
 module _ (w : Walk) (r : List ℕ) (v : Option ℤ) {i : Bool} (i-is : i ≡ is_inner r) where
-  pub step_inner : i ≡ true → w ≡ step_over w r v
-  unfolding step_over
-  step_inner e = at_true _ _ (sym i-is ∙ e)
-
   pub step_one : i ≡ false → {k p n : ℕ} → k ≡ get_or r 0 0 → p ≡ place_after (what_of r) v w.place
       → n ≡ pick (declares k) (w.names + 1) w.names → walk p n ≡ step_over w r v
   unfolding step_over step

@@ -1,7 +1,7 @@
 -- The settled numbers are those of the least pass that gives back what it read. Assumes nothing.
+use Rattle.std.specs.Prelude.{Option, None, Some}
 use mathlib.Core.Bool.{true, false}
 use mathlib.Core.List.{List, [], ◌∷◌}
-use mathlib.Core.Option.{Option, none, some}
 use mathlib.Core.Path.{◌≡◌, refl, sym, ap, ◌∙◌}
 use Prim.Native.Nat.{ℕ, zero, suc, ◌-◌, ◌≤◌}
 use native.Mathlib.Decide.{dec_lt}
@@ -40,7 +40,7 @@ module _ (reads : (ℕ → Option ℤ) → ℤ → ℕ → Value) (xs : List Sta
 
   pub passes_length : (n : ℕ) → length (L n) ≡ declarations xs
   unfolding passes
-  passes_length zero = length-replicate (declarations xs) none
+  passes_length zero = length-replicate (declarations xs) None
   passes_length (suc n) = pass_length reads (numbered (L n)) (begin o) xs
 
   -- ---- the test of two passes
@@ -68,7 +68,7 @@ module _ (reads : (ℕ → Option ℤ) → ℤ → ℕ → Value) (xs : List Sta
   least {n} {K} e = go (least_from (repeats reads xs o) limit 1) (least_found (repeats reads xs o) limit 1) e
     where
       go : (r : Option ℕ) → Found (repeats reads xs o) limit 1 r → settled_by reads xs o r ≡ Fine (n, K) → Least reads xs o n × (K ≡ L n)
-      go (some m) f e =
+      go (Some m) f e =
           let is = ap (λ (a : AnswerAt (ℕ × Values)). value_or (0, []) a) e in
           let number : m ≡ n = ap (λ (p : ℕ × Values). p.0) is in (
             rw (← number) (record {
@@ -79,7 +79,7 @@ module _ (reads : (ℕ → Option ℤ) → ℤ → ℕ → Value) (xs : List Sta
             }),
             sym (ap (λ (p : ℕ × Values). p.1) is) ∙ ap L number,
           )
-      go none f e = clash.never (cc)
+      go None f e = clash.never (cc)
 
   -- none of them is
   pub never : {k at : ℕ} → settled reads xs o ≡ Fault k at
@@ -89,8 +89,8 @@ module _ (reads : (ℕ → Option ℤ) → ℤ → ℕ → Value) (xs : List Sta
     where
       go : (r : Option ℕ) → Found (repeats reads xs o) limit 1 r → settled_by reads xs o r ≡ Fault k at
           → (k ≡ not_settled) × (at ≡ 0) × ((n : ℕ) → 1 ≤ n → n ≤ limit → ¬ (L n ≡ L (n - 1)))
-      go (some m) f e = clash.never (cc)
-      go none f e = (cc, cc, λ n a b. repeats_false n (f n a (omega arith)))
+      go (Some m) f e = clash.never (cc)
+      go None f e = (cc, cc, λ n a b. repeats_false n (f n a (omega arith)))
 
   -- the other way: what is the least is reported
   pub reported : {n : ℕ} → Least reads xs o n → settled reads xs o ≡ Fine (n, L n)

@@ -1,8 +1,7 @@
 -- The passes. Document 01: "L0 has every label and constant unresolved. Pass n walks the tape from the initial place, reads L(n-1)
 -- and gives Ln. A label gets its place, a constant its expression. A refused expression counts as unresolved."
 -- Assumes nothing: these are definitions.
-use Rattle.std.specs.Prelude.{ℕ, zero, suc, ◌-◌, Bool, List, [], ◌∷◌, ◌++◌, ℤ, replicate}
-use Rattle.std.proofs.Math.Option.{Option, none, some}
+use Rattle.std.specs.Prelude.{ℕ, zero, suc, ◌-◌, Bool, List, [], ◌∷◌, ◌++◌, ℤ, replicate, Option, None, Some}
 use Rattle.refusals.specs.Answer.{pick}
 use Rattle.refusals.specs.AnswerAt.{AnswerAt, Fine, Fault}
 use Rattle.refusals.specs.Table.{not_settled}
@@ -16,9 +15,9 @@ use Rattle.walk.specs.Values.{Values, numbered, read_at, step_at, declarations, 
 
 -- what a pass gives for the name that a statement declares: "A label gets its place, a constant its expression"
 abbrev pub gives : Walk → What → Option ℤ → Values
-gives w (Label id) v = some (here w) ∷ []
+gives w (Label id) v = Some (here w) ∷ []
 gives w (Constant id) v = v ∷ []
-gives w (Open id) v = none ∷ []
+gives w (Open id) v = None ∷ []
 gives w Close v = []
 gives w (Instruction mnemonic mode suffix) v = []
 gives w SetPlace v = []
@@ -37,8 +36,8 @@ module _ (reads : (ℕ → Option ℤ) → ℤ → ℕ → Value) where
 
 -- the least of `more` numbers, from n on, that passes a test
 abbrev pub least_from : (ℕ → Bool) → ℕ → ℕ → Option ℕ
-least_from test zero n = none
-least_from test (suc more) n = pick (test n) (some n) (least_from test more (suc n))
+least_from test zero n = None
+least_from test (suc more) n = pick (test n) (Some n) (least_from test more (suc n))
 
 -- "1 to 16"
 abbrev pub limit : ℕ
@@ -47,7 +46,7 @@ limit = 16
 module _ (reads : (ℕ → Option ℤ) → ℤ → ℕ → Value) (xs : List Statement) (o : Origin) where
   -- Ln: "L0 has every label and constant unresolved", and pass n "reads L(n-1) and gives Ln"
   unfoldable pub passes : ℕ → Values
-  passes zero = replicate (declarations xs) none
+  passes zero = replicate (declarations xs) None
   passes (suc n) = pass reads (numbered (passes n)) (begin o) xs
 
   -- "Ln equal to L(n-1)"
@@ -57,8 +56,8 @@ module _ (reads : (ℕ → Option ℤ) → ℤ → ℕ → Value) (xs : List Sta
   -- the passes, and the settled numbers: "The build reports the least n, 1 to 16, with Ln equal to L(n-1); none: refusal 16 at
   -- offset 0"
   abbrev pub settled_by : Option ℕ → AnswerAt (ℕ × Values)
-  settled_by (some n) = Fine (n, passes n)
-  settled_by none = Fault not_settled 0
+  settled_by (Some n) = Fine (n, passes n)
+  settled_by None = Fault not_settled 0
 
   unfoldable pub settled : AnswerAt (ℕ × Values)
   settled = settled_by (least_from repeats limit 1)

@@ -1,17 +1,16 @@
 -- The public calls of this crate: the passes over a tape whose names have been resolved. Assumes nothing: these are definitions.
-use Rattle.std.specs.Prelude.{ℕ, Bool, ◌&&◌, List, [], leb, ltb, length}
+use Rattle.std.specs.Prelude.{ℕ, Bool, ◌&&◌, List, leb, ltb, ℤ, length, Option, Result, Ok, Err}
 use Rattle.refusals.specs.Answer.{pick}
 use Rattle.refusals.specs.AnswerAt.{AnswerAt, Fine, Fault}
 use Rattle.refusals.specs.Table.{argument}
+use Rattle.refusals.specs.Says.{number_of}
+use Rattle.refusals.specs.declared.Fault as F
 use Rattle.edges.specs.Edges.{max_nodes}
 use Rattle.form.specs.Form.{max_tape}
 use Rattle.form.specs.Statements.{statements}
-use Rattle.walk.specs.declared.Numbers.{Numbers}
 use Rattle.walk.specs.Walk.{origin, begin}
 use Rattle.walk.specs.Values.{Values, declarations}
 use Rattle.walk.specs.Numbers.{numbers_in, numbers_by, reads_noted}
-use Rattle.passes.specs.declared.Passes as P
-use Rattle.passes.specs.declared.Passes.TheVariants as after
 use Rattle.passes.specs.declared.Settled.{Settled}
 use Rattle.passes.specs.Passes.{pass, settled}
 
@@ -24,21 +23,16 @@ settle_of tape nodes initial =
     pick (is_allowed tape initial) (settled (reads_noted tape nodes) (statements tape) (origin initial)) (Fault argument 0)
 
 -- one pass that reads these numbers
-unfoldable pub pass_once : List ℕ → List ℕ → Numbers → ℕ → AnswerAt (ℕ × Values)
-pass_once tape nodes n initial =
+unfoldable pub pass_once : List ℕ → List ℕ → List (Option ℤ) → ℕ → AnswerAt (ℕ × Values)
+pass_once tape nodes numbers initial =
     pick (is_allowed tape initial)
-    (Fine (1, pass (reads_noted tape nodes) (numbers_in n.known n.number) (begin (origin initial)) (statements tape)))
+    (Fine (1, pass (reads_noted tape nodes) (numbers_in numbers) (begin (origin initial)) (statements tape)))
     (Fault argument 0)
 
-abbrev pub says_passes : P.Passes → AnswerAt ℕ
-says_passes (after.After n) = Fine n
-says_passes (after.Refused n at) = Fault n at
+-- what is handed over: how many passes, and the numbers by node
+abbrev pub handed : ℕ × Values → ℕ × List (Option ℤ)
+handed (n, L) = (n, numbers_by L)
 
--- how many passes, and the numbers
-abbrev pub says_settled : Settled → AnswerAt ℕ × Numbers
-says_settled s = (says_passes s.answer, s.numbers)
-
--- where it is refused, no name has a number
-abbrev pub left : AnswerAt (ℕ × Values) → AnswerAt ℕ × Numbers
-left (Fine (n, L)) = (Fine n, numbers_by L)
-left (Fault n at) = (Fault n at, numbers_by [])
+abbrev pub says_settled : Result Settled F.Fault → AnswerAt (ℕ × List (Option ℤ))
+says_settled (Ok s) = Fine (s.passes, s.numbers)
+says_settled (Err f) = Fault (number_of f.why) f.at

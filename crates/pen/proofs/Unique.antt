@@ -1,18 +1,10 @@
 -- Each public call allows one answer: the law of `refusals`, applied to each call's own contract.
 -- Assumes nothing.
-use mathlib.Core.Path.{◌≡◌, refl}
-use Rattle.refusals.specs.Answer.{Answer, Done, Refused}
-use Rattle.refusals.specs.Says as outcome
+use Rattle.refusals.specs.Says.{says}
 use Rattle.refusals.proofs.Unique.{One, OneResult, same, told_apart}
-use Rattle.refusals.proofs.One as outcome-back
-use Rattle.int64.specs.Says.{says}
-use Rattle.int64.proofs.Unique.{back, back_says}
+use Rattle.refusals.proofs.One.{back, back_says}
 use Rattle.program_counter.specs.Says.{says_place, says_range}
 use Rattle.program_counter.proofs.Unique.{back_place, back_place_lem, back_range, back_range_lem}
-use Rattle.pen.specs.Says.{says_new}
-use Rattle.pen.specs.declared.Pen.{Pen}
-use Rattle.pen.specs.declared.NewPen.{NewPen}
-use Rattle.pen.specs.declared.NewPen.TheVariants as new-pen
 use Rattle.pen.proofs.Pen.new.Reads as new
 use Rattle.pen.proofs.Pen.pc.Reads as pc
 use Rattle.pen.proofs.Pen.target_pc.Reads as target-pc
@@ -25,20 +17,8 @@ use Rattle.pen.proofs.Pen.is_sound_over.Reads as is-sound-over
 use Rattle.pen.proofs.Pen.has_room.Reads as has_room
 use Rattle.pen.proofs.begin.Reads as begin
 
--- ---- of an answer, the case that says this
-
-abbrev back_new : Answer Pen → NewPen
-back_new (Done p) = new-pen.Is p
-back_new (Refused n) = new-pen.Refused n
-
-back_new_lem : (x : NewPen) → back_new (says_new x) ≡ x
-back_new_lem (new-pen.Is p) = refl
-back_new_lem (new-pen.Refused n) = refl
-
--- ---- the calls
-
 pub new_one : OneResult new.Post
-new_one k a x y e f p q = told_apart says_new back_new back_new_lem p q
+new_one k a x y e f p q = told_apart says back back_says p q
 
 pub pc_one : OneResult pc.Post
 pc_one k a x y e f p q = told_apart says_place back_place back_place_lem p q
@@ -57,7 +37,7 @@ pub range_data_one : One (λ k x e. x.now) range-data.Post
 range_data_one k a x y e f p q = same p q
 
 pub range_data_answer_one : OneResult range-data-answer.Post
-range_data_answer_one k a x y e f p q = told_apart outcome.says outcome-back.back outcome-back.back_says p q
+range_data_answer_one k a x y e f p q = told_apart says back back_says p q
 
 pub is_sound_one : OneResult is_sound.Post
 is_sound_one k a x y e f p q = same p q

@@ -5,24 +5,22 @@
 #![tactic(auto)]
 
 ghost use Rattle.std.specs.Prelude.{◌≡◌, ◌≤◌, pos, ◌-ℤ◌};
-ghost use Rattle.refusals.specs.Answer.{outcome};
-ghost use Rattle.int64.specs.Says.{says};
+ghost use Rattle.refusals.specs.Answer.{Done, outcome};
+ghost use Rattle.refusals.specs.Says.{says};
 ghost use Rattle.program_counter.specs.Says.{says_place, says_range};
-ghost use Rattle.refusals.specs.Says as R;
-ghost use Rattle.pen.specs.Pens.{sound, sound_over, begun, new, pc, target_pc, target_offset, range};
+ghost use Rattle.pen.specs.Pens.{of_pen, sound, sound_over, begun, new, pc, target_pc, target_offset, range};
 ghost use Rattle.pen.specs.Pens.{range_data, part_of, fits};
-ghost use Rattle.pen.specs.Says.{says_new};
 
-use int64::Number;
-use program_counter::{Extent, Place, ProgramCounter, Range};
-use refusals::{ARGUMENT, Outcome};
+use program_counter::{ProgramCounter, Range};
+use refusals::Refusal;
 
 // How many bytes an image has; also the last place, one past the last byte.
 pub const SIZE: usize = 65536;
 
 // Where the next byte goes (place), where a reset goes back to (initial), what place the code is meant for when it starts there
-// (target), what is written so far (start up to, but not including, end), and whether anything was emitted.
-#[derive(Clone, Copy)]
+// (target), what is written so far (start up to, but not including, end), and whether anything was emitted:
+// a flag, since an empty range stands at the initial place before that.
+#[derive(Clone, Copy, Debug, PartialEq, Eq)]
 pub struct Pen {
     pub place: usize,
     pub initial: usize,
@@ -32,70 +30,60 @@ pub struct Pen {
     pub emitted: bool,
 }
 
-#[derive(Clone, Copy)]
-pub enum NewPen {
-    Is(Pen),
-    Refused(u8),
-}
-
 impl Pen {
     // A pen at its initial place, with nothing emitted.
-    pub fn new(initial: usize, target: usize) -> NewPen
-        ensures { says_new result ≡ new initial target }
+    #[tactic(auto, unfolding(crate::specs::Pens::new))]
+    pub fn new(initial: usize, target: usize) -> Result<Pen, Refusal>
+        ensures { says result ≡ new initial target }
     {
-        if SIZE < initial {
-            return NewPen::Refused(ARGUMENT);
+        if initial <= SIZE && target <= SIZE {
+            Ok(begin(initial, target))
+        } else {
+            Err(Refusal::Argument)
         }
-        if SIZE < target {
-            return NewPen::Refused(ARGUMENT);
-        }
-        NewPen::Is(begin(initial, target))
     }
 
     // The place.
-    pub fn pc(self) -> Place
+    #[tactic(auto, unfolding(crate::specs::Pens::pc, crate::specs::Pens::of_pen))]
+    pub fn pc(self) -> Result<ProgramCounter, Refusal>
         ensures { says_place result ≡ pc self }
     {
-        if !self.is_sound() {
-            return Place::Refused(ARGUMENT);
-        }
-        Place::At(ProgramCounter(self.place))
+        self.checked()?;
+        Ok(ProgramCounter(self.place))
     }
 
     // The place that the next byte is meant for.
-    pub fn target_pc(self) -> Number
+    #[tactic(auto, unfolding(crate::specs::Pens::target_pc, crate::specs::Pens::of_pen, crate::specs::Pens::sound))]
+    pub fn target_pc(self) -> Result<i64, Refusal>
         ensures { says result ≡ target_pc self }
     {
-        if !self.is_sound() {
-            return Number::Refused(ARGUMENT);
-        }
-        Number::Is(difference(self.place + self.target, self.initial))
+        self.checked()?;
+        Ok(difference(self.place + self.target, self.initial))
     }
 
     // What is written so far.
-    pub fn range(self) -> Extent
+    #[tactic(auto, unfolding(crate::specs::Pens::range, crate::specs::Pens::of_pen))]
+    pub fn range(self) -> Result<Range, Refusal>
         ensures { says_range result ≡ range self }
     {
-        if !self.is_sound() {
-            return Extent::Refused(ARGUMENT);
-        }
-        Extent::Is(Range {
+        self.checked()?;
+        Ok(Range {
             start: self.start,
             end: self.end,
         })
     }
 
     // How far the target lies from the initial place.
-    pub fn target_offset(self) -> Number
+    #[tactic(auto, unfolding(crate::specs::Pens::target_offset, crate::specs::Pens::of_pen, crate::specs::Pens::sound))]
+    pub fn target_offset(self) -> Result<i64, Refusal>
         ensures { says result ≡ target_offset self }
     {
-        if !self.is_sound() {
-            return Number::Refused(ARGUMENT);
-        }
-        Number::Is(difference(self.target, self.initial))
+        self.checked()?;
+        Ok(difference(self.target, self.initial))
     }
 
     // The part of the image that the range covers; no bytes where nothing was emitted, or where range_data_answer refuses.
+    #[tactic(auto, unfolding(crate::specs::Pens::range_data, crate::specs::Pens::of_both, crate::specs::Pens::sound_over, crate::specs::Pens::sound))]
     pub fn range_data(self, image: &[u8]) -> &[u8]
         ensures { result.now ≡ part_of (range_data self image.now) }
     {
@@ -111,59 +99,60 @@ impl Pen {
     }
 
     // Whether range_data hands out the range, or refuses.
-    pub fn range_data_answer(self, image: &[u8]) -> Outcome
-        ensures { R.says result ≡ outcome (range_data self image.now) }
+    #[tactic(auto, unfolding(crate::specs::Pens::range_data, crate::specs::Pens::of_both))]
+    pub fn range_data_answer(self, image: &[u8]) -> Result<(), Refusal>
+        ensures { says result ≡ outcome (range_data self image.now) }
     {
-        if !self.is_sound_over(image.len()) {
-            return Outcome::Refused(ARGUMENT);
+        if self.is_sound_over(image.len()) {
+            Ok(())
+        } else {
+            Err(Refusal::Argument)
         }
-        Outcome::Done
+    }
+
+    // Refused where the pen is not sound.
+    #[tactic(auto, unfolding(crate::specs::Pens::of_pen))]
+    fn checked(self) -> Result<(), Refusal>
+        ensures { says result ≡ of_pen self (Done tt) }
+    {
+        if self.is_sound() {
+            Ok(())
+        } else {
+            Err(Refusal::Argument)
+        }
     }
 
     // Whether the places are at most 65,536 and the range runs forward.
+    #[tactic(auto, unfolding(crate::specs::Pens::sound))]
     pub fn is_sound(self) -> bool
         ensures { result ≡ sound self }
     {
-        if SIZE < self.place {
-            return false;
-        }
-        if SIZE < self.initial {
-            return false;
-        }
-        if SIZE < self.target {
-            return false;
-        }
-        if self.end < self.start {
-            return false;
-        }
-        self.end <= SIZE
+        self.place <= SIZE
+            && self.initial <= SIZE
+            && self.target <= SIZE
+            && self.start <= self.end
+            && self.end <= SIZE
     }
 
     // Whether the pen is sound, and over an image of the one length there is.
+    #[tactic(auto, unfolding(crate::specs::Pens::sound_over))]
     pub fn is_sound_over(self, length: usize) -> bool
         ensures { result ≡ sound_over self length }
     {
-        if length != SIZE {
-            return false;
-        }
-        self.is_sound()
+        length == SIZE && self.is_sound()
     }
 
     // Whether so many bytes fit at the place, which is itself inside the image.
+    #[tactic(auto, unfolding(crate::specs::Pens::fits))]
     pub fn has_room(self, count: usize) -> bool
         ensures { result ≡ fits self count }
     {
-        if SIZE <= self.place {
-            return false;
-        }
-        if SIZE < count {
-            return false;
-        }
-        self.place + count <= SIZE
+        self.place < SIZE && count <= SIZE && self.place + count <= SIZE
     }
 }
 
 // A pen at its initial place, with nothing emitted. Nothing is tested: is_sound tells whether the two places are there.
+#[tactic(auto, unfolding(crate::specs::Pens::begun))]
 pub fn begin(initial: usize, target: usize) -> Pen
     ensures { result ≡ begun initial target }
 {

@@ -1,3 +1,2 @@
--- The law of places, and that each public call allows one answer.
-pub mod Laws
+-- That each public call allows one answer.
 pub mod Unique

@@ -1,34 +1,18 @@
--- What the names of a tape answer, and how many there are. Assumes nothing.
+-- The names of a tape, where the memory for its notes is whole; and how many they are. Assumes nothing.
 use mathlib.Core.List.{List, [], ◌∷◌}
-use mathlib.Core.Path.{◌≡◌, refl, sym, ap, ◌∙◌}
+use mathlib.Core.Path.{◌≡◌}
 use Prim.Native.Nat.{ℕ, ◌+◌, ◌<◌}
 use native.Mathlib.Omega.{arith}
 use borrow.Author.Tests.{eq-eqb}
-use Rattle.refusals.specs.AnswerAt.{AnswerAt, Fine, Fault}
-use Rattle.refusals.specs.Says.{says_at}
-use Rattle.refusals.specs.declared.OutcomeAt as O
-use Rattle.refusals.specs.declared.OutcomeAt.TheVariants as outcome
-use Rattle.refusals.proofs.Never.{never}
-use Rattle.refusals.proofs.Answers.{fault_is}
+use Rattle.refusals.specs.AnswerAt.{Fine}
 use Rattle.symbols.specs.declared.SymbolTable.{SymbolTable}
 use Rattle.form.specs.Form.{max_tape}
 use Rattle.form.specs.Statements.{What, Instruction, Open, Close, Label, Constant, SetPlace, Byte, Word, Screen, Statement, statements}
 use Rattle.names.specs.Scopes.{Scopes, outermost, scopes_after, scopes_behind}
-use Rattle.names.specs.Names.{left, names_of, declare_of}
+use Rattle.names.specs.Names.{names_of, declare_of}
 use Rattle.names.proofs.Kept.{declared_count}
 use Rattle.walk.specs.Walk.{names_in}
 use Rattle.walk.specs.Values.{declarations}
-
--- ---- what the names answer
-
-module _ {t : SymbolTable} {r : O.OutcomeAt} where
-  pub names_refused : {m at : ℕ} → r ≡ outcome.Refused m at → (a : AnswerAt SymbolTable) → (t, says_at r) ≡ left a → a ≡ Fault m at
-  names_refused is (Fine u) e = never (let f = sym (ap says_at is) ∙ ap (λ x. x.1) e in cc)
-  names_refused is (Fault n i) e = sym (fault_is (sym (ap says_at is) ∙ ap (λ x. x.1) e))
-
-  pub names_done : r ≡ outcome.Done → (a : AnswerAt SymbolTable) → (t, says_at r) ≡ left a → (u : SymbolTable) × (a ≡ Fine u)
-  names_done is (Fine u) e = (u, refl)
-  names_done is (Fault n i) e = never (let f = sym (ap says_at is) ∙ ap (λ x. x.1) e in cc)
 
 pub declare_is : (tape : List ℕ) {places : ℕ} → places ≡ max_tape → declare_of tape places ≡ names_of tape
 unfolding declare_of

@@ -1,8 +1,8 @@
 -- Once the names of a tape are resolved, what is noted of a name is the node that query finds from its scope: both ways to read the
 -- expressions of the tape's statements agree. Assumes nothing.
+use Rattle.std.specs.Prelude.{Option, None, Some}
 use mathlib.Core.Bool.{Bool, true, false, and-eq-true_iff}
 use mathlib.Core.List.{List, [], ◌∷◌}
-use mathlib.Core.Option.{Option, none, some}
 use mathlib.Core.Path.{◌≡◌, refl, sym, ap, ◌∙◌, subst}
 use Prim.Native.Nat.{ℕ, zero, suc, ◌+◌, ◌-◌, ◌≤◌, ◌<◌}
 use native.Mathlib.Numerals.{add-one}
@@ -104,16 +104,16 @@ begin_from (suc n) tape at j e =
 
 -- one more than a node, or 0
 abbrev one_more : Option ℕ → ℕ
-one_more none = 0
-one_more (some n) = suc n
+one_more None = 0
+one_more (Some n) = suc n
 
-noted_is : (r : Option ℕ) → ((n : ℕ) → r ≡ some n → n < 1024) → noted (Done r) ≡ one_more r
-noted_is none h = refl
-noted_is (some n) h = rw (lt-ltb n 1024 (h n refl), add-one n)
+noted_is : (r : Option ℕ) → ((n : ℕ) → r ≡ Some n → n < 1024) → noted (Done r) ≡ one_more r
+noted_is None h = refl
+noted_is (Some n) h = rw (lt-ltb n 1024 (h n refl), add-one n)
 
 reached_is : (numbers : ℕ → Option ℤ) (r : Option ℕ) → reached numbers (one_more r) ≡ number_in numbers r
-reached_is numbers none = refl
-reached_is numbers (some n) = refl
+reached_is numbers None = refl
+reached_is numbers (Some n) = refl
 
 each_map : {A : Type 0} {P Q : A → Type 0} → ((a : A) → P a → Q a) → (l : List A) → Each P l → Each Q l
 each_map f [] h = tt

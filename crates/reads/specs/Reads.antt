@@ -1,6 +1,5 @@
 -- What an expression on a tape means once its names are declared. Assumes nothing: these are definitions.
-use Rattle.std.specs.Prelude.{ℕ, List, ℤ}
-use Rattle.std.proofs.Math.Option.{Option, none, some}
+use Rattle.std.specs.Prelude.{ℕ, List, ℤ, Option, None, Some}
 use Rattle.symbols.specs.declared.SymbolTable.{SymbolTable}
 use Rattle.edges.specs.Edges.{query_of}
 use Rattle.symbols.specs.Symbols.{edges_of}
@@ -16,8 +15,8 @@ reaches tape t at = query_of (edges_of t) (scope_at tape at) (path_of (bytes_at 
 
 -- "one without a number is unresolved"
 abbrev pub number_in : (ℕ → Option ℤ) → Option ℕ → Option ℤ
-number_in numbers none = none
-number_in numbers (some n) = numbers n
+number_in numbers None = None
+number_in numbers (Some n) = numbers n
 
 -- the expression at an offset, at a place, where the nodes of the table t have these numbers
 unfoldable pub reads_on : List ℕ → SymbolTable → (ℕ → Option ℤ) → ℤ → ℕ → Value

@@ -1,7 +1,7 @@
 -- What is put behind the tries: the refused line, or the lines and the last one. Assumes nothing.
+use Rattle.std.specs.Prelude.{Option}
 use mathlib.Core.Bool.{Bool, true, false, ◌&&◌}
 use mathlib.Core.List.{List, ◌++◌}
-use mathlib.Core.Option.{Option}
 use mathlib.Core.Path.{◌≡◌, refl, sym, ap, ◌∙◌}
 use Prim.Native.Nat.{ℕ, ◌≤◌}
 use lib.Dec.{eqb, leb}
@@ -20,37 +20,33 @@ use Rattle.pen.specs.Pens.{size}
 use Rattle.form.specs.Form.{max_tape}
 use Rattle.form.specs.Statements.{statements}
 use Rattle.evaluator.specs.Expression.{Value}
-use Rattle.walk.specs.declared.Numbers.{Numbers}
 use Rattle.walk.specs.Walk.{origin, begin}
 use Rattle.walk.specs.Numbers.{numbers_in, reads_noted}
-use Rattle.tries.specs.declared.Written as W
-use Rattle.tries.specs.declared.Written.TheVariants as written
 use Rattle.tries.specs.Tries.{Trying}
-use Rattle.tries.specs.Write.{is_allowed, tried_all, write_of, range_of, says_written}
+use Rattle.tries.specs.Write.{is_allowed, tried_all, write_of, range_of}
 use Rattle.compares.specs.Compared.{builder}
 use Rattle.record_lines.specs.Records.{lines, said, recorded}
 use Rattle.record_lines.specs.Steps.{AllPass}
 
 -- ---- what they answer
 
-range_refused : {w : W.Written} {m at : ℕ} → w ≡ written.Refused m at → (a : AnswerAt Trying) → says_written w ≡ mapped range_of a
-    → a ≡ Fault m at
-range_refused is (Fine t) e = never (cc)
-range_refused is (Fault n i) e = sym (fault_is (sym (ap says_written is) ∙ e))
+range_refused : {m at : ℕ} (a : AnswerAt Trying) → Fault m at ≡ mapped range_of a → a ≡ Fault m at
+range_refused (Fine t) e = never (cc)
+range_refused (Fault n i) e = sym (fault_is e)
 
-range_fine : {w : W.Written} {from to : ℕ} → w ≡ written.Range from to → (a : AnswerAt Trying) → says_written w ≡ mapped range_of a
+range_fine : {from to : ℕ} (a : AnswerAt Trying) → Fine (from, to) ≡ mapped range_of a
     → (u : Trying) × (a ≡ Fine u) × ((from, to) ≡ range_of u)
-range_fine is (Fine t) e = (t, refl, fine_value (sym (ap says_written is) ∙ e))
-range_fine is (Fault n i) e = never (cc)
+range_fine (Fine t) e = (t, refl, fine_value e)
+range_fine (Fault n i) e = never (cc)
 
 -- ---- what is put then
 
-module _ (tape nodes : List ℕ) (numbers : Numbers) (initial : ℕ) where
+module _ (tape nodes : List ℕ) (numbers : List (Option ℤ)) (initial : ℕ) where
   abbrev reads : (ℕ → Option ℤ) → ℤ → ℕ → Value
   reads = reads_noted tape nodes
 
   abbrev known : ℕ → Option ℤ
-  known = numbers_in numbers.known numbers.number
+  known = numbers_in numbers
 
   abbrev all : AnswerAt Trying
   all = write_of tape nodes numbers initial builder size
@@ -76,27 +72,25 @@ module _ (tape nodes : List ℕ) (numbers : Numbers) (initial : ℕ) where
       go true false d short low e = never (cc)
       go false b d short low e = never (cc)
 
-  -- w: what they answer
-  module _ (w : W.Written) (told : says_written w ≡ mapped range_of all) where
-    pub all_pass : {from to : ℕ} → w ≡ written.Range from to → Passed
-    all_pass is = let found = range_fine is all told in passed found.0 found.1
+  pub all_pass : {from to : ℕ} → Fine (from, to) ≡ mapped range_of all → Passed
+  all_pass told = let found = range_fine all told in passed found.0 found.1
 
-    -- m: the text before; n: how many passes there were
-    module _ (n : ℕ) (m : List ℕ) where
-      abbrev Filled : ℕ × List ℕ → Type 0
-      Filled z = z ≡ laid m 0 (said (recorded tape nodes numbers n initial))
+  -- m: the text before; n: how many passes there were
+  module _ (n : ℕ) (m : List ℕ) where
+    abbrev Filled : ℕ × List ℕ → Type 0
+    Filled z = z ≡ laid m 0 (said (recorded tape nodes numbers n initial))
 
-      pub filled_refused : {i at : ℕ} → w ≡ written.Refused i at → {z : ℕ × List ℕ} → z ≡ laid m 0 (refused_line i at) → Filled z
-      unfolding recorded
-      filled_refused is put =
-          laid_same m 0 _ (sym (ap (λ (a : AnswerAt Trying). said (mapped (text n) a)) (range_refused is all told))) put
+    pub filled_refused : {i at : ℕ} → Fault i at ≡ mapped range_of all → {z : ℕ × List ℕ} → z ≡ laid m 0 (refused_line i at) → Filled z
+    unfolding recorded
+    filled_refused told put =
+        laid_same m 0 _ (sym (ap (λ (a : AnswerAt Trying). said (mapped (text n) a)) (range_refused all told))) put
 
-      -- first the lines, then the last one
-      pub filled_lines : {from to : ℕ} → w ≡ written.Range from to → {text' : List ℕ} {end : ℕ} → (end, text') ≡ laid m 0 shown
-          → {z : ℕ × List ℕ} → z ≡ laid text' end (last_line from to n) → Filled z
-      unfolding recorded
-      filled_lines {from} {to} is put last =
-          let (u, fine, both) = range_fine is all told in
-          laid_same m 0 _
-          (ap (λ (p : ℕ × ℕ). shown ++ last_line p.0 p.1 n) both ∙ sym (ap (λ (a : AnswerAt Trying). said (mapped (text n) a)) fine))
-          (laid_then m 0 shown put (last_line from to n) last)
+    -- first the lines, then the last one
+    pub filled_lines : {from to : ℕ} → Fine (from, to) ≡ mapped range_of all → {text' : List ℕ} {end : ℕ}
+        → (end, text') ≡ laid m 0 shown → {z : ℕ × List ℕ} → z ≡ laid text' end (last_line from to n) → Filled z
+    unfolding recorded
+    filled_lines {from} {to} told put last =
+        let (u, fine, both) = range_fine all told in
+        laid_same m 0 _
+        (ap (λ (p : ℕ × ℕ). shown ++ last_line p.0 p.1 n) both ∙ sym (ap (λ (a : AnswerAt Trying). said (mapped (text n) a)) fine))
+        (laid_then m 0 shown put (last_line from to n) last)

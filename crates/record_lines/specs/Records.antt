@@ -1,14 +1,12 @@
 -- A line for each record that writes, in tape order, and a last one; or the refused line. Assumes nothing: these are definitions.
-use Rattle.std.specs.Prelude.{ℕ, List, [], ◌∷◌, ◌++◌, ℤ}
+use Rattle.std.specs.Prelude.{ℕ, List, [], ◌∷◌, ◌++◌, ℤ, Option}
 use Prim.Native.String.{String}
-use Rattle.std.proofs.Math.Option.{Option}
 use Rattle.refusals.specs.AnswerAt.{AnswerAt, Fine, Fault, part, mapped}
 use Rattle.mnemonics.specs.Mnemonics.{dashes, name_of}
 use Rattle.lines.specs.Text.{line, last_line, refused_line}
 use Rattle.pen.specs.Pens.{size}
 use Rattle.form.specs.Statements.{What, Instruction, Open, Close, Label, Constant, SetPlace, Byte, Word, Screen, Statement, statements}
 use Rattle.evaluator.specs.Expression.{Value}
-use Rattle.walk.specs.declared.Numbers.{Numbers}
 use Rattle.walk.specs.declared.Walk.{Walk}
 use Rattle.walk.specs.Walk.{origin, begin}
 use Rattle.walk.specs.Values.{step_at}
@@ -54,9 +52,9 @@ said (Fine text) = text
 said (Fault number at) = refused_line number at
 
 -- a tape whose names have been resolved, and whose numbers n passes have settled: its lines, "then start, end and passes"
-unfoldable pub recorded : List ℕ → List ℕ → Numbers → (n initial : ℕ) → AnswerAt (List ℕ)
+unfoldable pub recorded : (tape nodes : List ℕ) (numbers : List (Option ℤ)) (n initial : ℕ) → AnswerAt (List ℕ)
 recorded tape nodes numbers n initial =
     mapped
-    (λ t. lines (reads_noted tape nodes) (numbers_in numbers.known numbers.number) (begin (origin initial)) (statements tape)
+    (λ t. lines (reads_noted tape nodes) (numbers_in numbers) (begin (origin initial)) (statements tape)
     ++ last_line t.page.pen.start t.page.pen.end n)
     (write_of tape nodes numbers initial builder size)

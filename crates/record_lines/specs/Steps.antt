@@ -1,6 +1,5 @@
 -- What private functions promise each other on the way. No public promise cites this. Assumes nothing: this is a definition.
-use Rattle.std.specs.Prelude.{ℕ, List, ◌≡◌, ℤ}
-use Rattle.std.proofs.Math.Option.{Option}
+use Rattle.std.specs.Prelude.{ℕ, List, ◌≡◌, ℤ, Option}
 use Rattle.refusals.specs.AnswerAt.{Fine}
 use Rattle.form.specs.Statements.{Statement}
 use Rattle.evaluator.specs.Expression.{Value}

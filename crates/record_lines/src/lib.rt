@@ -4,7 +4,7 @@
 #![tactic(auto)]
 
 ghost use Rattle.std.specs.Prelude.{[], ◌≡◌, ◌≤◌, pos, length, get_or};
-ghost use Rattle.std.proofs.Math.Option.{none};
+ghost use Rattle.std.specs.Prelude.{None};
 ghost use Rattle.refusals.specs.Answer.{pick};
 ghost use Rattle.refusals.specs.AnswerAt.{part};
 ghost use Rattle.opcodes.specs.Encode.{code};
@@ -25,10 +25,8 @@ ghost use Rattle.record_lines.specs.Steps.{AllPass};
 use evaluator::Value;
 use mnemonics::DATA;
 use opcodes::Code;
-use symbols::{Data, NODES};
+use symbols::Numbers;
 use tape::{INSTRUCTION, SET_PLACE};
-use tries::{Tried, Written};
-use walk::Numbers;
 
 // Tries every statement with these numbers, and puts the lines at the text's beginning; the offset behind them.
 pub fn put_records<'a>(
@@ -43,10 +41,10 @@ pub fn put_records<'a>(
         (said (recorded tape.now nodes.now numbers passes initial)) }
 {
     match finish::tried(tape, nodes, numbers, initial) {
-        Written::Refused { number, at } => lines::put_refused(text, 0, number, at),
-        Written::Range { start, end } => {
-            let at = put_lines(tape, nodes, &numbers.known, &numbers.number, initial, text);
-            lines::put_last(text, at, start, end, passes)
+        Err(fault) => lines::put_refused(text, 0, fault.why.number(), fault.at),
+        Ok(written) => {
+            let at = put_lines(tape, nodes, &numbers, initial, text);
+            lines::put_last(text, at, written.start, written.end, passes)
         }
     }
 }
@@ -55,27 +53,27 @@ pub fn put_records<'a>(
 fn put_lines<'a>(
     tape: &'a [u8],
     nodes: &'a [u16],
-    known: &'a [bool; NODES],
-    number: &'a [i64; NODES],
+    numbers: &'a Numbers,
     initial: usize,
     text: &mut [u8],
 ) -> usize
     requires { (length tape.now ≤ max_tape) × (initial ≤ size)
-        × AllPass (reads_noted tape.now nodes.now) (numbers_in known.now number.now) (statements tape.now) (origin initial) }
+        × AllPass (reads_noted tape.now nodes.now) (numbers_in numbers.now) (statements tape.now) (origin initial) }
     ensures { (result, text.new) ≡ laid text.old 0
-        (lines (reads_noted tape.now nodes.now) (numbers_in known.now number.now)
+        (lines (reads_noted tape.now nodes.now) (numbers_in numbers.now)
         (begin (origin initial)) (statements tape.now)) }
 {
     let mut place = initial;
     let mut end: usize = 0;
     let mut at: usize = 0;
+    // A record's length is the step of this walk: no index is counted.
     while at < tape.len() {
         let rec = tape::record(tape, at);
         if form::is_last(rec) {
             return end;
         }
         let next = at + rec.len();
-        let value = walk::value_of(tape, nodes, known, number, place as i64, rec, next);
+        let value = walk::value_of(tape, nodes, numbers, place as i64, rec, next);
         let bytes = bytes_of(rec, at, place, value);
         end = put_record(text, end, place, rec, bytes);
         place = place_behind(rec, value, place, bytes.len as usize);
@@ -88,21 +86,14 @@ fn put_lines<'a>(
 fn bytes_of(rec: &[u8], at: usize, place: usize, value: Value) -> Code
     requires { place ≤ size }
     ensures { result ≡ code (pick (is_inner rec.now) []
-        (part (try_of plain none (pos place) at (what_of rec.now) (says_value value)))) }
+        (part (try_of plain None (pos place) at (what_of rec.now) (says_value value)))) }
 {
     if form::is_inner(rec) {
         return no_bytes();
     }
-    match tries::attempt(
-        compares::plain(),
-        Data::Unresolved,
-        place as i64,
-        rec,
-        at,
-        value,
-    ) {
-        Tried::Refused { .. } => no_bytes(),
-        Tried::Bytes(bytes) => bytes,
+    match tries::attempt(compares::plain(), None, place as i64, rec, at, value) {
+        Err(_) => no_bytes(),
+        Ok(bytes) => bytes,
     }
 }
 
@@ -119,6 +110,7 @@ fn no_bytes() -> Code
 }
 
 // The place behind a record that writes so many bytes.
+#[tactic(auto, unfolding(tries::specs::Steps::place_behind))]
 fn place_behind(rec: &[u8], value: Value, place: usize, len: usize) -> usize
     requires { (place ≤ size) × (len ≤ 3) }
     ensures { result ≡ place_behind (get_or rec.now 0 0) (says_value value) place len }

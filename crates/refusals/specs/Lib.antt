@@ -3,4 +3,5 @@ pub mod AnswerAt
 pub mod Table
 pub mod Each
 pub mod Says
+pub mod Words
 pub mod Memory

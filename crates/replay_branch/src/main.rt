@@ -2,37 +2,24 @@
 // An answer is the operand byte in capital hex, or `refused`, on a line of its own.
 #![tactic(auto)]
 
-use branch::Distance;
-use descriptors::{STDIN_FILENO, STDOUT_FILENO};
+use console::Console;
+use std::io;
 
-// Prints an answer.
-fn print_answer(answer: Distance) {
-    match answer {
-        Distance::Byte(b) => {
-            io::write_all(STDOUT_FILENO, &hexadecimal::capital(b));
-        }
-        Distance::Refused(_) => {
-            io::write_all(STDOUT_FILENO, b"refused");
-        }
+// How many bytes a question has.
+const QUESTION: usize = 16;
+
+// Prints the answer to a question.
+fn answer(rt: &impl Print, question: &[u8]) -> io::Result<()> {
+    match branch::distance_of(little::i64_at(question, 0), little::i64_at(question, 8)) {
+        Ok(byte) => print!(rt; "{byte:02X}"),
+        Err(_) => print!(rt; "refused"),
     }
 }
 
-// Answers one question; whether there was one.
-fn answer() -> bool {
-    let mut question = [0u8; 16];
-    if io::read_full(STDIN_FILENO, &mut question) < 16 {
-        return false;
-    }
-    let place = little::i64_at(&question, 0);
-    let target = little::i64_at(&question, 8);
-    print_answer(branch::distance_of(place, target));
-    io::write_all(STDOUT_FILENO, b"\n")
-}
-
-// Answers every question. (A proved loop has to end, so it counts down, from a number that no input uses up.)
 fn main() {
-    let mut left = u64::MAX;
-    while left > 0 && answer() {
-        left -= 1;
-    }
+    let _ = replay::answer_each(
+        &Console,
+        &mut [0u8; QUESTION],
+        |rt, question| answer(rt, question),
+    );
 }

@@ -3,56 +3,44 @@
 // on a line of its own.
 #![tactic(auto)]
 
-use descriptors::{STDIN_FILENO, STDOUT_FILENO};
-use inverse::{Decoded, Row};
+use console::Console;
+use inverse::Instruction;
+use refusals::Refusal;
+use std::io;
 
-// Prints a number with a space before it.
-fn print_further(n: u64) {
-    io::write_all(STDOUT_FILENO, b" ");
-    io::print_decimal(STDOUT_FILENO, n);
-}
+// How many bytes a question has.
+const QUESTION: usize = 4;
 
 // Prints an instruction.
-fn print_instruction(row: Row, operand: u16) {
-    io::print_decimal(STDOUT_FILENO, row.mnemonic as u64);
-    print_further(row.mode as u64);
-    print_further(row.suffix as u64);
-    print_further(row.operand as u64);
-    print_further(operand as u64);
+fn print_instruction(rt: &impl Print, instruction: Instruction) -> io::Result<()> {
+    let row = instruction.row;
+    let operand = instruction.operand;
+    print!(rt;
+        "{} {} {} {} {operand}",
+        row.mnemonic, row.mode, row.suffix, row.operand
+    )
 }
 
-// Prints an answer.
-fn print_answer(answer: Decoded) {
-    match answer {
-        Decoded::Instruction { row, operand } => print_instruction(row, operand),
-        Decoded::Refused(n) => {
-            io::write_all(STDOUT_FILENO, b"refused");
-            print_further(n as u64);
-        }
+// Decodes the bytes behind the first, as many of them as it says.
+fn decode(question: &[u8]) -> Result<Instruction, Refusal> {
+    match question.split_first() {
+        Some((count, bytes)) => inverse::decode(page::cut(bytes, *count as usize)),
+        None => inverse::decode(question),
     }
 }
 
-// Decodes as many of these bytes as the count says, or all if there are fewer.
-fn decode(bytes: &[u8], count: u8) -> Decoded {
-    let n = io::count(count as isize, bytes);
-    inverse::decode(&bytes[..n])
-}
-
-// Answers one question; whether there was one.
-fn answer() -> bool {
-    let mut question = [0u8; 4];
-    if io::read_full(STDIN_FILENO, &mut question) < 4 {
-        return false;
+// Prints the answer to a question.
+fn answer(rt: &impl Print, question: &[u8]) -> io::Result<()> {
+    match decode(question) {
+        Ok(instruction) => print_instruction(rt, instruction),
+        Err(why) => print!(rt; "{why}"),
     }
-    let count = question[0];
-    print_answer(decode(&question[1..], count));
-    io::write_all(STDOUT_FILENO, b"\n")
 }
 
-// Answers every question. (A proved loop has to end, so it counts down, from a number that no input uses up.)
 fn main() {
-    let mut left = u64::MAX;
-    while left > 0 && answer() {
-        left -= 1;
-    }
+    let _ = replay::answer_each(
+        &Console,
+        &mut [0u8; QUESTION],
+        |rt, question| answer(rt, question),
+    );
 }

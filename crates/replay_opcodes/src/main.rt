@@ -2,51 +2,38 @@
 // An answer is the instruction's bytes in capital hex, or `refused` (the Rust does not say why), on a line of its own.
 #![tactic(auto)]
 
-use descriptors::{STDIN_FILENO, STDOUT_FILENO};
-use opcodes::{Code, Encoded};
+use console::Console;
+use opcodes::Code;
+use std::io;
 
-// Prints a byte with a space before it.
-fn print_further(b: u8) {
-    io::write_all(STDOUT_FILENO, b" ");
-    io::write_all(STDOUT_FILENO, &hexadecimal::capital(b));
-}
+// How many bytes a question has.
+const QUESTION: usize = 11;
 
 // Prints an instruction's bytes.
-fn print_code(code: Code) {
-    io::write_all(STDOUT_FILENO, &hexadecimal::capital(code.b0));
-    if 1 < code.len {
-        print_further(code.b1);
-    }
-    if 2 < code.len {
-        print_further(code.b2);
-    }
-}
-
-// Prints an answer.
-fn print_answer(answer: Encoded) {
-    match answer {
-        Encoded::Bytes(code) => print_code(code),
-        Encoded::Refused(_) => {
-            io::write_all(STDOUT_FILENO, b"refused");
-        }
+fn print_code(rt: &impl Print, code: Code) -> io::Result<()> {
+    let Code { len, b0, b1, b2 } = code;
+    match len {
+        1 => print!(rt; "{b0:02X}"),
+        2 => print!(rt; "{b0:02X} {b1:02X}"),
+        _ => print!(rt; "{b0:02X} {b1:02X} {b2:02X}"),
     }
 }
 
-// Answers one question; whether there was one.
-fn answer() -> bool {
-    let mut question = [0u8; 11];
-    if io::read_full(STDIN_FILENO, &mut question) < 11 {
-        return false;
+// Prints the answer to a question.
+fn answer(rt: &impl Print, question: &[u8]) -> io::Result<()> {
+    let mnemonic = little::u8_at(question, 0);
+    let mode = little::u8_at(question, 1);
+    let suffix = little::u8_at(question, 2);
+    match opcodes::encode(mnemonic, mode, suffix, little::i64_at(question, 3)) {
+        Ok(code) => print_code(rt, code),
+        Err(_) => print!(rt; "refused"),
     }
-    let operand = little::i64_at(&question, 3);
-    print_answer(opcodes::encode(question[0], question[1], question[2], operand));
-    io::write_all(STDOUT_FILENO, b"\n")
 }
 
-// Answers every question. (A proved loop has to end, so it counts down, from a number that no input uses up.)
 fn main() {
-    let mut left = u64::MAX;
-    while left > 0 && answer() {
-        left -= 1;
-    }
+    let _ = replay::answer_each(
+        &Console,
+        &mut [0u8; QUESTION],
+        |rt, question| answer(rt, question),
+    );
 }

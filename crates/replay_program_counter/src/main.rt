@@ -3,92 +3,67 @@
 // An answer is one or two numbers in decimal, or `refused` where the Rust panics, on a line of its own.
 #![tactic(auto)]
 
-use descriptors::{STDIN_FILENO, STDOUT_FILENO};
-use int64::Number;
-use program_counter::{Extent, LeBytes, Place, ProgramCounter, Short};
+use console::Console;
+use program_counter::{ProgramCounter, Range};
+use refusals::Refusal;
+use std::fmt::Display;
+use std::io;
 
-fn print_refused() {
-    io::write_all(STDOUT_FILENO, b"refused");
+// How many bytes a question has.
+const QUESTION: usize = 17;
+
+fn print_refused(rt: &impl Print) -> io::Result<()> {
+    print!(rt; "refused")
 }
 
-// Prints two numbers with a space between.
-fn print_two(a: u64, b: u64) {
-    io::print_decimal(STDOUT_FILENO, a);
-    io::write_all(STDOUT_FILENO, b" ");
-    io::print_decimal(STDOUT_FILENO, b);
-}
-
-fn print_place(answer: Place) {
+fn print_number<T: Copy + Display>(rt: &impl Print, answer: Result<T, Refusal>) -> io::Result<()> {
     match answer {
-        Place::At(pc) => {
-            io::print_decimal(STDOUT_FILENO, pc.0 as u64);
+        Ok(n) => print!(rt; "{n}"),
+        Err(_) => print_refused(rt),
+    }
+}
+
+fn print_place(rt: &impl Print, answer: Result<ProgramCounter, Refusal>) -> io::Result<()> {
+    print_number(rt, answer.map(|pc| pc.0))
+}
+
+fn print_bytes(rt: &impl Print, answer: Result<[u8; 2], Refusal>) -> io::Result<()> {
+    match answer {
+        Ok(bytes) => {
+            let [low, high] = bytes;
+            print!(rt; "{low} {high}")
         }
-        Place::Refused(_) => print_refused(),
+        Err(_) => print_refused(rt),
     }
 }
 
-fn print_short(answer: Short) {
+fn print_range(rt: &impl Print, answer: Result<Range, Refusal>) -> io::Result<()> {
     match answer {
-        Short::Is(n) => {
-            io::print_decimal(STDOUT_FILENO, n as u64);
-        }
-        Short::Refused(_) => print_refused(),
+        Ok(Range { start, end }) => print!(rt; "{start} {end}"),
+        Err(_) => print_refused(rt),
     }
 }
 
-fn print_bytes(answer: LeBytes) {
-    match answer {
-        LeBytes::Are(low, high) => print_two(low as u64, high as u64),
-        LeBytes::Refused(_) => print_refused(),
-    }
-}
-
-fn print_number(answer: Number) {
-    match answer {
-        Number::Is(z) => {
-            io::print_decimal(STDOUT_FILENO, int64::size(z));
-        }
-        Number::Refused(_) => print_refused(),
-    }
-}
-
-fn print_range(answer: Extent) {
-    match answer {
-        Extent::Is(r) => print_two(r.start as u64, r.end as u64),
-        Extent::Refused(_) => print_refused(),
-    }
-}
-
-// Prints what the operation gives.
-fn print_answer(operation: u8, a: usize, b: usize) {
+// Prints the answer to a question.
+fn answer(rt: &impl Print, question: &[u8]) -> io::Result<()> {
+    let a = little::u64_at(question, 1) as usize;
+    let b = little::u64_at(question, 9) as usize;
     let pc = ProgramCounter(a);
-    match operation {
-        0 => print_place(ProgramCounter::new(a)),
-        1 => print_place(pc.add(b)),
-        2 => print_place(pc.sub(b)),
-        3 => print_short(pc.as_u16()),
-        4 => print_bytes(pc.to_le_bytes()),
-        5 => print_number(pc.as_i64()),
-        _ => print_range(pc.as_empty_range()),
+    match little::u8_at(question, 0) {
+        0 => print_place(rt, ProgramCounter::new(a)),
+        1 => print_place(rt, pc.add(b)),
+        2 => print_place(rt, pc.sub(b)),
+        3 => print_number(rt, pc.as_u16()),
+        4 => print_bytes(rt, pc.to_le_bytes()),
+        5 => print_number(rt, pc.as_i64()),
+        _ => print_range(rt, pc.as_empty_range()),
     }
 }
 
-// Answers one question; whether there was one.
-fn answer() -> bool {
-    let mut question = [0u8; 17];
-    if io::read_full(STDIN_FILENO, &mut question) < 17 {
-        return false;
-    }
-    let a = little::u64_at(&question, 1) as usize;
-    let b = little::u64_at(&question, 9) as usize;
-    print_answer(question[0], a, b);
-    io::write_all(STDOUT_FILENO, b"\n")
-}
-
-// Answers every question. (A proved loop has to end, so it counts down, from a number that no input uses up.)
 fn main() {
-    let mut left = u64::MAX;
-    while left > 0 && answer() {
-        left -= 1;
-    }
+    let _ = replay::answer_each(
+        &Console,
+        &mut [0u8; QUESTION],
+        |rt, question| answer(rt, question),
+    );
 }

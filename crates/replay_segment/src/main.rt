@@ -8,277 +8,167 @@
 // afterwards or the two answers are not the same, numbers included, and behind that of range_data if the two images are not.
 #![tactic(auto)]
 
-use descriptors::{STDIN_FILENO, STDOUT_FILENO};
-use int64::Number;
-use pen::{NewPen, Pen};
-use program_counter::{Extent, Place};
-use refusals::Outcome;
-use segment::Drawn;
+use console::Console;
+use pen::{Pen, SIZE};
+use program_counter::{ProgramCounter, Range};
+use refusals::Refusal;
+use std::io;
 
-// The pen after a question, and whether there was one.
+// How many bytes a question has.
+const QUESTION: usize = 9;
+
+// How many bytes there are to emit from: more than an image has, from every seed.
+const BYTES: usize = 65793;
+
+// The last operation that moves the pen or writes.
+const EMIT: u8 = 3;
+
+// What one of the operations works on: two numbers, and the bytes that are emitted.
 #[derive(Clone, Copy)]
-struct Turn {
-    pen: Pen,
-    more: bool,
+struct Asked<'a> {
+    operation: u8,
+    a: usize,
+    b: usize,
+    bytes: &'a [u8],
 }
 
-fn print_refused() {
-    io::write_all(STDOUT_FILENO, b"refused");
+fn print_refused(rt: &impl Print) -> io::Result<()> {
+    print!(rt; "refused")
 }
 
-fn print_space() {
-    io::write_all(STDOUT_FILENO, b" ");
-}
-
-// Prints two numbers with a space between.
-fn print_two(a: u64, b: u64) {
-    io::print_decimal(STDOUT_FILENO, a);
-    print_space();
-    io::print_decimal(STDOUT_FILENO, b);
-}
-
-fn print_place(answer: Place) {
+fn print_place(rt: &impl Print, answer: Result<ProgramCounter, Refusal>) -> io::Result<()> {
     match answer {
-        Place::At(pc) => {
-            io::print_decimal(STDOUT_FILENO, pc.0 as u64);
-        }
-        Place::Refused(_) => print_refused(),
+        Ok(pc) => print!(rt; "{}", pc.0),
+        Err(_) => print_refused(rt),
     }
 }
 
-// Prints a number, which may be below 0.
-fn print_signed(z: i64) {
-    if z < 0 {
-        io::write_all(STDOUT_FILENO, b"-");
-    }
-    io::print_decimal(STDOUT_FILENO, int64::size(z));
-}
-
-fn print_number(answer: Number) {
+fn print_number(rt: &impl Print, answer: Result<i64, Refusal>) -> io::Result<()> {
     match answer {
-        Number::Is(z) => print_signed(z),
-        Number::Refused(_) => print_refused(),
+        Ok(z) => print!(rt; "{z}"),
+        Err(_) => print_refused(rt),
     }
 }
 
-fn print_range(answer: Extent) {
+fn print_range(rt: &impl Print, answer: Result<Range, Refusal>) -> io::Result<()> {
     match answer {
-        Extent::Is(r) => print_two(r.start as u64, r.end as u64),
-        Extent::Refused(_) => print_refused(),
+        Ok(Range { start, end }) => print!(rt; "{start} {end}"),
+        Err(_) => print_refused(rt),
     }
 }
 
-fn print_outcome(answer: Outcome) {
+fn print_done(rt: &impl Print, answer: Result<(), Refusal>) -> io::Result<()> {
     match answer {
-        Outcome::Done => {
-            io::write_all(STDOUT_FILENO, b"done");
-        }
-        Outcome::Refused(_) => print_refused(),
+        Ok(()) => print!(rt; "done"),
+        Err(_) => print_refused(rt),
     }
 }
 
 // Says that the lent pen gave something else.
-fn print_differs() {
-    io::write_all(STDOUT_FILENO, b" differs");
+fn print_differs(rt: &impl Print) -> io::Result<()> {
+    print!(rt; " differs")
 }
 
 // Prints whether it was done, the place and the range.
-fn print_drawn(drawn: Drawn) {
-    let pen = drawn.pen;
-    let answer = drawn.answer;
-    print_outcome(answer);
-    print_space();
-    print_place(pen.pc());
-    print_space();
-    print_range(pen.range());
+fn print_drawn(rt: &impl Print, answer: Result<(), Refusal>, pen: Pen) -> io::Result<()> {
+    print_done(rt, answer)?;
+    print!(rt; " ")?;
+    print_place(rt, pen.pc())?;
+    print!(rt; " ")?;
+    print_range(rt, pen.range())
 }
 
-// The checksum with one byte more. The divisor is prime.
-fn mixed(sum: u64, byte: u8) -> u64 {
-    257 * (sum % 4294967291) + byte as u64 + 1
-}
-
-// A number that depends on every byte and on their order.
-fn checksum(data: &[u8]) -> u64 {
-    let mut sum = 0;
-    let mut i = 0;
-    while i < data.len() {
-        sum = mixed(sum, data[i]);
-        i += 1;
-    }
-    sum
-}
-
-fn print_data(data: &[u8]) {
-    print_two(data.len() as u64, checksum(data));
+fn print_data(rt: &impl Print, data: &[u8]) -> io::Result<()> {
+    print!(rt; "{} {}", data.len(), replay::checksum(data))
 }
 
 // Prints what range_data gives, and whether the lent pen's image is another.
-fn print_range_data(pen: Pen, image: &[u8], lent_image: &[u8]) {
+fn print_range_data(rt: &impl Print, pen: Pen, image: &[u8], lent_image: &[u8]) -> io::Result<()> {
     match pen.range_data_answer(image) {
-        Outcome::Done => print_data(pen.range_data(image)),
-        Outcome::Refused(_) => print_refused(),
+        Ok(()) => print_data(rt, pen.range_data(image))?,
+        Err(_) => print_refused(rt)?,
     }
-    if !check::same(image, lent_image) {
-        print_differs();
+    if image != lent_image {
+        print_differs(rt)?;
     }
+    Ok(())
 }
 
-// A new pen, or the one there was.
-fn new(pen: Pen, initial: usize, target: usize) -> Drawn {
-    match Pen::new(initial, target) {
-        NewPen::Is(begun) => Drawn {
-            pen: begun,
-            answer: Outcome::Done,
-        },
-        NewPen::Refused(number) => Drawn {
-            pen,
-            answer: Outcome::Refused(number),
-        },
-    }
-}
-
-// 7 more, or 256 less than that.
-fn next(byte: u8) -> u8 {
-    if byte < 249 { byte + 7 } else { byte - 249 }
-}
-
-// Fills the bytes that are emitted: 0, and each 7 more than the one before.
+// Fills the bytes that are emitted: 0, and each 7 more than the one before, modulo 256.
 fn fill(bytes: &mut [u8]) {
-    let mut byte = 0;
-    let mut i = 0;
-    while i < bytes.len() {
-        bytes[i] = byte;
-        byte = next(byte);
-        i += 1;
+    let mut next: u8 = 0;
+    for byte in bytes.iter_mut() {
+        *byte = next;
+        next = next.wrapping_add(7);
     }
 }
 
 // So many of the bytes, from the seed on; where there are less, all of them, and so more than fit.
 fn part(bytes: &[u8], count: usize, seed: usize) -> &[u8] {
-    if bytes.len() < seed {
-        return bytes;
-    }
-    if bytes.len() - seed < count {
-        return bytes;
-    }
-    &bytes[seed..seed + count]
+    bytes.get(seed..seed.saturating_add(count)).unwrap_or(bytes)
 }
 
 // Does one of the operations that give a pen.
-fn draw(operation: u8, a: usize, b: usize, pen: Pen, image: &mut [u8], bytes: &[u8]) -> Drawn {
-    match operation {
-        0 => new(pen, a, b),
+fn draw(asked: Asked, pen: Pen, image: &mut [u8]) -> Result<Pen, Refusal> {
+    match asked.operation {
+        0 => Pen::new(asked.a, asked.b),
         1 => segment::reset(pen),
-        2 => segment::set_pc(pen, a),
-        _ => segment::emit(pen, image, part(bytes, a, b)),
+        2 => segment::set_pc(pen, asked.a),
+        _ => segment::emit(pen, image, part(asked.bytes, asked.a, asked.b)),
     }
 }
 
-// Resets a pen that is held here and lent.
-fn lent_reset(pen: Pen) -> Drawn {
-    let mut held = pen;
-    let answer = lent_pen::reset(&mut held);
-    Drawn { pen: held, answer }
-}
-
-// Moves the place of a pen that is held here and lent.
-fn lent_set_pc(pen: Pen, pc: usize) -> Drawn {
-    let mut held = pen;
-    let answer = lent_pen::set_pc(&mut held, pc);
-    Drawn { pen: held, answer }
-}
-
-// Emits the bytes with a pen that is held here and lent.
-fn lent_emit(pen: Pen, image: &mut [u8], bytes: &[u8]) -> Drawn {
-    let mut held = pen;
-    let answer = lent_pen::emit(&mut held, image, bytes);
-    Drawn { pen: held, answer }
+// Makes a pen where one is held.
+fn begin(pen: &mut Pen, initial: usize, target: usize) -> Result<(), Refusal> {
+    *pen = Pen::new(initial, target)?;
+    Ok(())
 }
 
 // Does one of them with a pen that is lent.
-fn draw_lent(operation: u8, a: usize, b: usize, pen: Pen, image: &mut [u8], bytes: &[u8]) -> Drawn {
-    match operation {
-        0 => new(pen, a, b),
-        1 => lent_reset(pen),
-        2 => lent_set_pc(pen, a),
-        _ => lent_emit(pen, image, part(bytes, a, b)),
+fn draw_lent(asked: Asked, pen: &mut Pen, image: &mut [u8]) -> Result<(), Refusal> {
+    match asked.operation {
+        0 => begin(pen, asked.a, asked.b),
+        1 => lent_pen::reset(pen),
+        2 => lent_pen::set_pc(pen, asked.a),
+        _ => lent_pen::emit(pen, image, part(asked.bytes, asked.a, asked.b)),
     }
 }
 
-// Whether two pens are the same in every field.
-fn is_same_pen(pen: Pen, other: Pen) -> bool {
-    pen.place == other.place
-        && pen.initial == other.initial
-        && pen.target == other.target
-        && pen.start == other.start
-        && pen.end == other.end
-        && pen.emitted == other.emitted
-}
-
-// Whether an answer is done.
-fn is_done(answer: Outcome) -> bool {
-    match answer {
-        Outcome::Done => true,
-        Outcome::Refused(_) => false,
+// Does one of them both ways, prints the answer, and keeps the pen.
+fn move_on(
+    rt: &impl Print,
+    asked: Asked,
+    pen: &mut Pen,
+    image: &mut [u8],
+    lent_image: &mut [u8],
+) -> io::Result<()> {
+    let mut lent = *pen;
+    let lent_answer = draw_lent(asked, &mut lent, lent_image);
+    let drawn = draw(asked, *pen, image);
+    let answer = drawn.map(|_| ());
+    *pen = drawn.unwrap_or(*pen);
+    print_drawn(rt, answer, *pen)?;
+    if lent != *pen || lent_answer != answer {
+        print_differs(rt)?;
     }
-}
-
-// Whether an answer is refused with this number.
-fn is_refused(answer: Outcome, number: u8) -> bool {
-    match answer {
-        Outcome::Done => false,
-        Outcome::Refused(other) => other == number,
-    }
-}
-
-// Whether two answers are the same, the number too.
-fn is_same_answer(answer: Outcome, other: Outcome) -> bool {
-    match answer {
-        Outcome::Done => is_done(other),
-        Outcome::Refused(number) => is_refused(other, number),
-    }
-}
-
-// Whether two draws gave the same pen and the same answer.
-fn is_same_drawn(drawn: Drawn, other: Drawn) -> bool {
-    let answer = drawn.answer;
-    let other_answer = other.answer;
-    is_same_pen(drawn.pen, other.pen) && is_same_answer(answer, other_answer)
+    Ok(())
 }
 
 // Prints what one of the other operations gives.
-fn print_answer(operation: u8, pen: Pen, image: &[u8], lent_image: &[u8]) {
-    match operation {
-        4 => print_place(pen.pc()),
-        5 => print_number(pen.target_pc()),
-        6 => print_number(pen.target_offset()),
-        7 => print_range(pen.range()),
-        _ => print_range_data(pen, image, lent_image),
-    }
-}
-
-// Prints the answer, and hands back the pen after it.
-fn apply(
+fn tell(
+    rt: &impl Print,
     operation: u8,
-    a: usize,
-    b: usize,
     pen: Pen,
-    image: &mut [u8],
-    lent_image: &mut [u8],
-    bytes: &[u8],
-) -> Pen {
-    if 3 < operation {
-        print_answer(operation, pen, image, lent_image);
-        return pen;
+    image: &[u8],
+    lent_image: &[u8],
+) -> io::Result<()> {
+    match operation {
+        4 => print_place(rt, pen.pc()),
+        5 => print_number(rt, pen.target_pc()),
+        6 => print_number(rt, pen.target_offset()),
+        7 => print_range(rt, pen.range()),
+        _ => print_range_data(rt, pen, image, lent_image),
     }
-    let drawn = draw(operation, a, b, pen, image, bytes);
-    let lent = draw_lent(operation, a, b, pen, lent_image, bytes);
-    print_drawn(drawn);
-    if !is_same_drawn(drawn, lent) {
-        print_differs();
-    }
-    drawn.pen
 }
 
 // The number of four bytes.
@@ -286,42 +176,24 @@ fn number_at(question: &[u8], at: usize) -> usize {
     (little::u64_at(question, at) % 0x1_0000_0000) as usize
 }
 
-// Answers one question.
-fn answer(pen: Pen, image: &mut [u8], lent_image: &mut [u8], bytes: &[u8]) -> Turn {
-    let mut question = [0u8; 9];
-    if io::read_full(STDIN_FILENO, &mut question) < 9 {
-        return Turn { pen, more: false };
-    }
-    let a = number_at(&question, 1);
-    let b = number_at(&question, 5);
-    let after = apply(question[0], a, b, pen, image, lent_image, bytes);
-    let more = io::write_all(STDOUT_FILENO, b"\n");
-    Turn { pen: after, more }
-}
-
-// Answers every question. (A proved loop has to end, so it counts down, from a number that no input uses up.)
-fn answer_all(pen: Pen, image: &mut [u8], lent_image: &mut [u8], bytes: &[u8]) {
-    let mut turn = Turn { pen, more: true };
-    let mut left = u64::MAX;
-    while left > 0 && turn.more {
-        turn = answer(turn.pen, image, lent_image, bytes);
-        left -= 1;
-    }
-}
-
 // Every script writes into one image, whatever the last one left there, and the lent pen into a second.
 fn main() {
-    let mut image = [0u8; 65536];
-    let mut lent_image = [0u8; 65536];
-    let mut bytes = [0u8; 65793];
+    let mut image = [0u8; SIZE];
+    let mut lent_image = [0u8; SIZE];
+    let mut bytes = [0u8; BYTES];
     fill(&mut bytes);
-    let pen = Pen {
-        place: 0,
-        initial: 0,
-        target: 0,
-        start: 0,
-        end: 0,
-        emitted: false,
-    };
-    answer_all(pen, &mut image, &mut lent_image, &bytes);
+    let mut pen = pen::begin(0, 0);
+    let _ = replay::answer_each(&Console, &mut [0u8; QUESTION], |rt, question| {
+        let operation = little::u8_at(question, 0);
+        if EMIT < operation {
+            return tell(rt, operation, pen, &image, &lent_image);
+        }
+        let asked = Asked {
+            operation,
+            a: number_at(question, 1),
+            b: number_at(question, 5),
+            bytes: &bytes,
+        };
+        move_on(rt, asked, &mut pen, &mut image, &mut lent_image)
+    });
 }

@@ -4,80 +4,54 @@
 // entry holds the address, `refused` where the Rust panics, and `done` for the others.
 #![tactic(auto)]
 
-use descriptors::{STDIN_FILENO, STDOUT_FILENO};
-use refusals::Outcome;
-use source_map::{Count, Entry, Found, OneEntry};
+use console::Console;
+use refusals::Refusal;
+use source_map::Entry;
+use std::io;
 
-fn print_refused() {
-    io::write_all(STDOUT_FILENO, b"refused");
+// How many bytes a question has.
+const QUESTION: usize = 17;
+
+fn print_refused(rt: &impl Print) -> io::Result<()> {
+    print!(rt; "refused")
 }
 
-fn print_outcome(answer: Outcome) {
+fn print_done(rt: &impl Print, answer: Result<(), Refusal>) -> io::Result<()> {
     match answer {
-        Outcome::Done => {
-            io::write_all(STDOUT_FILENO, b"done");
-        }
-        Outcome::Refused(_) => print_refused(),
+        Ok(()) => print!(rt; "done"),
+        Err(_) => print_refused(rt),
     }
 }
 
-fn print_count(answer: Count) {
+fn print_count(rt: &impl Print, answer: Result<usize, Refusal>) -> io::Result<()> {
     match answer {
-        Count::Is(n) => {
-            io::print_decimal(STDOUT_FILENO, n as u64);
-        }
-        Count::Refused(_) => print_refused(),
+        Ok(n) => print!(rt; "{n}"),
+        Err(_) => print_refused(rt),
     }
 }
 
-// Prints a number and a space.
-fn print_spaced(n: u32) {
-    io::print_decimal(STDOUT_FILENO, n as u64);
-    io::write_all(STDOUT_FILENO, b" ");
+fn print_entry(rt: &impl Print, entry: Entry) -> io::Result<()> {
+    let Entry {
+        scope,
+        span,
+        pc,
+        len,
+    } = entry;
+    print!(rt; "{scope} {span} {pc} {len}")
 }
 
-fn print_entry(entry: Entry) {
-    print_spaced(entry.scope);
-    print_spaced(entry.span);
-    print_spaced(entry.pc);
-    io::print_decimal(STDOUT_FILENO, entry.len as u64);
-}
-
-fn print_one(answer: OneEntry) {
+fn print_one(rt: &impl Print, answer: Result<Entry, Refusal>) -> io::Result<()> {
     match answer {
-        OneEntry::Is(entry) => print_entry(entry),
-        OneEntry::Refused(_) => print_refused(),
+        Ok(entry) => print_entry(rt, entry),
+        Err(_) => print_refused(rt),
     }
 }
 
-fn print_found(answer: Found) {
+fn print_found(rt: &impl Print, answer: Result<Option<Entry>, Refusal>) -> io::Result<()> {
     match answer {
-        Found::Offset(entry) => print_entry(entry),
-        Found::Nothing => {
-            io::write_all(STDOUT_FILENO, b"nothing");
-        }
-        Found::Refused(_) => print_refused(),
-    }
-}
-
-// Prints what the operation gives.
-fn print_answer(operation: u8, map: &mut [u32], a: u32, b: u32, c: u32, d: u32) {
-    match operation {
-        0 => print_outcome(source_map::clear(map)),
-        1 => print_outcome(source_map::add(
-            map,
-            Entry {
-                scope: a,
-                span: b,
-                pc: c,
-                len: d,
-            },
-        )),
-        2 => print_outcome(source_map::clear(map)),
-        3 => print_outcome(source_map::move_offsets(map, a, b, c)),
-        4 => print_found(source_map::address_to_offset(map, a)),
-        5 => print_count(source_map::len(map)),
-        _ => print_one(source_map::entry_at(map, a as usize)),
+        Ok(Some(entry)) => print_entry(rt, entry),
+        Ok(None) => print!(rt; "nothing"),
+        Err(_) => print_refused(rt),
     }
 }
 
@@ -86,30 +60,31 @@ fn number_at(question: &[u8], at: usize) -> u32 {
     (little::u64_at(question, at) % 0x1_0000_0000) as u32
 }
 
-// Answers one question; whether there was one.
-fn answer(map: &mut [u32]) -> bool {
-    let mut question = [0u8; 17];
-    if io::read_full(STDIN_FILENO, &mut question) < 17 {
-        return false;
-    }
-    let a = number_at(&question, 1);
-    let b = number_at(&question, 5);
-    let c = number_at(&question, 9);
-    let d = number_at(&question, 13);
-    print_answer(question[0], map, a, b, c, d);
-    io::write_all(STDOUT_FILENO, b"\n")
-}
-
-// Answers every question. (A proved loop has to end, so it counts down, from a number that no input uses up.)
-fn answer_all(map: &mut [u32]) {
-    let mut left = u64::MAX;
-    while left > 0 && answer(map) {
-        left -= 1;
+// Prints the answer to a question.
+fn answer(rt: &impl Print, map: &mut [u32], question: &[u8]) -> io::Result<()> {
+    let a = number_at(question, 1);
+    let b = number_at(question, 5);
+    let c = number_at(question, 9);
+    let added = Entry {
+        scope: a,
+        span: b,
+        pc: c,
+        len: number_at(question, 13),
+    };
+    match little::u8_at(question, 0) {
+        0 | 2 => print_done(rt, source_map::clear(map)),
+        1 => print_done(rt, source_map::add(map, added)),
+        3 => print_done(rt, source_map::move_offsets(map, a, b, c)),
+        4 => print_found(rt, source_map::address_to_offset(map, a)),
+        5 => print_count(rt, source_map::len(map)),
+        _ => print_one(rt, source_map::entry_at(map, a as usize)),
     }
 }
 
 // Every script has the same map, which `new` only clears.
 fn main() {
-    let mut map = [0u32; 16385];
-    answer_all(&mut map);
+    let mut map = [0u32; source_map::WORDS];
+    let _ = replay::answer_each(&Console, &mut [0u8; QUESTION], |rt, question| {
+        answer(rt, &mut map, question)
+    });
 }

@@ -6,229 +6,101 @@
 // `unresolved`, `done`, of query_all the count and the nodes, or `refused` and document 01's number.
 #![tactic(auto)]
 
-use descriptors::{STDIN_FILENO, STDOUT_FILENO};
-use questions::Got;
-use refusals::Outcome;
-use scopes::{Count, Found};
-use symbols::{Changed, Data, Inserted, Node, SymbolTable};
+use console::Console;
+use refusals::Refusal;
+use std::io;
+use symbols::{Inserted, SymbolTable};
 
-// A question without its path: the operation, a node, another node or an id, and a number or none.
-#[derive(Clone, Copy)]
-struct Asked {
+// How many bytes a question has.
+const QUESTION: usize = 14;
+
+// A question: the operation, a node, another node or an id, a number or none, and a path. The last two are two readings of the same bytes.
+#[derive(Clone, Copy, Debug, PartialEq, Eq)]
+struct Asked<'a> {
     operation: u8,
     nx: u16,
     other: u16,
-    value: Data,
+    value: Option<i64>,
+    path: &'a [u16],
 }
 
-// The table after a question, and whether there was one.
-#[derive(Clone, Copy)]
-struct Turn {
-    table: SymbolTable,
-    more: bool,
-}
-
-fn print_refused(number: u8) {
-    io::write_all(STDOUT_FILENO, b"refused ");
-    io::print_decimal(STDOUT_FILENO, number as u64);
-}
-
-fn print_done() {
-    io::write_all(STDOUT_FILENO, b"done");
-}
-
-fn print_node(node: u16) {
-    io::print_decimal(STDOUT_FILENO, node as u64);
-}
-
-// Prints a number, which may be below 0.
-fn print_signed(z: i64) {
-    if z < 0 {
-        io::write_all(STDOUT_FILENO, b"-");
-    }
-    io::print_decimal(STDOUT_FILENO, int64::size(z));
-}
-
-fn print_got(answer: Got) {
-    match answer {
-        Got::Number(z) => print_signed(z),
-        Got::Unresolved => {
-            io::write_all(STDOUT_FILENO, b"unresolved");
+impl<'a> Asked<'a> {
+    // The question of these bytes, and so many of these ids, or all.
+    fn new(question: &[u8], ids: &'a [u16; 4]) -> Self {
+        let count = little::u8_at(question, 5) as usize;
+        Asked {
+            operation: little::u8_at(question, 0),
+            nx: little::u16_at(question, 1),
+            other: little::u16_at(question, 3),
+            value: (count != 0).then_some(little::i64_at(question, 6)),
+            path: ids.get(..count).unwrap_or(ids),
         }
-        Got::Refused(number) => print_refused(number),
     }
 }
 
-fn print_found(answer: Found) {
-    match answer {
-        Found::At(node) => print_node(node),
-        Found::Nothing => {
-            io::write_all(STDOUT_FILENO, b"nothing");
-        }
-        Found::Refused(number) => print_refused(number),
-    }
-}
-
-// Prints how many nodes a list has, and the nodes.
-fn print_list(list: &[u16]) {
-    io::print_decimal(STDOUT_FILENO, list.len() as u64);
-    let mut i = 0;
-    while i < list.len() {
-        io::write_all(STDOUT_FILENO, b" ");
-        print_node(list[i]);
-        i += 1;
-    }
-}
-
-// The first so many numbers, or all.
-fn part(numbers: &[u16], count: usize) -> &[u16] {
-    if numbers.len() < count {
-        return numbers;
-    }
-    &numbers[0..count]
-}
-
-// Prints what query_all gives.
-fn print_all(table: SymbolTable, nx: u16, path: &[u16]) {
+// Prints how many nodes query_all lists, and the nodes.
+fn print_all(rt: &impl Print, table: SymbolTable, nx: u16, path: &[u16]) -> io::Result<()> {
     let mut list = [0u16; 1024];
-    match questions::query_all(table, nx, path, &mut list) {
-        Count::Is(count) => print_list(part(&list, count)),
-        Count::Refused(number) => print_refused(number),
+    let answer = questions::query_all(table, nx, path, &mut list);
+    cases::print_answer(rt, answer)?;
+    for node in list.iter().take(answer.unwrap_or(0)) {
+        print!(rt; " {node}")?;
     }
+    Ok(())
 }
 
 // Prints what one of the operations gives that only ask.
-fn print_answer(asked: Asked, table: SymbolTable, path: &[u16]) {
-    let operation = asked.operation;
+fn print_answer(rt: &impl Print, asked: Asked, table: SymbolTable) -> io::Result<()> {
     let nx = asked.nx;
-    match operation {
-        5 => print_got(questions::get(table, nx)),
-        6 => print_found(questions::child(table, nx, asked.other)),
-        7 => print_found(questions::parent(table, nx)),
-        8 => print_found(questions::try_index(table, nx, path)),
-        9 => print_found(questions::query(table, nx, path)),
-        _ => print_all(table, nx, path),
-    }
-}
-
-fn print_outcome(answer: Outcome) {
-    match answer {
-        Outcome::Done => print_done(),
-        Outcome::Refused(number) => print_refused(number),
-    }
-}
-
-// Prints the outcome, and hands back the table.
-fn after(changed: Changed) -> SymbolTable {
-    let answer = changed.answer;
-    print_outcome(answer);
-    changed.table
-}
-
-fn print_made(answer: Node) {
-    match answer {
-        Node::Is(node) => print_node(node),
-        Node::Refused(number) => print_refused(number),
-    }
-}
-
-// Prints the node, and hands back the table.
-fn after_node(inserted: Inserted) -> SymbolTable {
-    let answer = inserted.answer;
-    print_made(answer);
-    inserted.table
-}
-
-// A new table.
-fn begun() -> SymbolTable {
-    print_done();
-    SymbolTable::new()
-}
-
-// Prints what one of the operations gives that change the table, and hands back the table after it.
-fn change(asked: Asked, table: SymbolTable, path: &[u16]) -> SymbolTable {
-    let operation = asked.operation;
-    let nx = asked.nx;
-    let other = asked.other;
-    let value = asked.value;
-    match operation {
-        0 => begun(),
-        1 => after_node(table.insert(nx, other, value)),
-        2 => after(table.update_data(nx, value)),
-        3 => after_node(table.ensure_index(nx, path)),
-        _ => after(table.export(nx, other, path)),
-    }
-}
-
-// Prints the answer, and hands back the table after it.
-fn apply(asked: Asked, table: SymbolTable, path: &[u16]) -> SymbolTable {
-    if 4 < asked.operation {
-        print_answer(asked, table, path);
-        return table;
-    }
-    change(asked, table, path)
-}
-
-// The number of a question, if it has one.
-fn value_of(known: u8, z: i64) -> Data {
-    if known == 0 {
-        return Data::Unresolved;
-    }
-    Data::Number(z)
-}
-
-// The bytes of a question as numbers.
-fn asked_in(question: &[u8]) -> Asked {
-    Asked {
-        operation: byte_at(question, 0),
-        nx: little::u16_at(question, 1),
-        other: little::u16_at(question, 3),
-        value: value_of(byte_at(question, 5), little::i64_at(question, 6)),
-    }
-}
-
-// The byte at an offset, or 0.
-fn byte_at(question: &[u8], at: usize) -> u8 {
-    if at < question.len() { question[at] } else { 0 }
-}
-
-// The ids of a question, and those behind them.
-fn ids_in(question: &[u8]) -> [u16; 4] {
-    [
-        little::u16_at(question, 6),
-        little::u16_at(question, 8),
-        little::u16_at(question, 10),
-        little::u16_at(question, 12),
-    ]
-}
-
-// A byte as a count.
-fn wide(x: u8) -> usize {
-    x as usize
-}
-
-// Answers one question.
-fn answer(table: SymbolTable) -> Turn {
-    let mut question = [0u8; 14];
-    if io::read_full(STDIN_FILENO, &mut question) < 14 {
-        return Turn { table, more: false };
-    }
-    let ids = ids_in(&question);
-    let path = part(&ids, wide(question[5]));
-    let after = apply(asked_in(&question), table, path);
-    let more = io::write_all(STDOUT_FILENO, b"\n");
-    Turn { table: after, more }
-}
-
-// Answers every question. (A proved loop has to end, so it counts down, from a number that no input uses up.)
-fn main() {
-    let mut turn = Turn {
-        table: SymbolTable::new(),
-        more: true,
+    let path = asked.path;
+    let found = match asked.operation {
+        5 => return cases::print_found(rt, questions::get(table, nx), "unresolved"),
+        6 => questions::child(table, nx, asked.other),
+        7 => questions::parent(table, nx),
+        8 => questions::try_index(table, nx, path),
+        9 => questions::query(table, nx, path),
+        _ => return print_all(rt, table, nx, path),
     };
-    let mut left = u64::MAX;
-    while left > 0 && turn.more {
-        turn = answer(turn.table);
-        left -= 1;
+    cases::print_found(rt, found, "nothing")
+}
+
+// Prints what one of the operations answers that change the table; it is the one after it then.
+fn change(
+    rt: &impl Print,
+    table: &mut SymbolTable,
+    answer: Result<SymbolTable, Refusal>,
+) -> io::Result<()> {
+    *table = answer.unwrap_or(*table);
+    cases::print_answer(rt, answer.map(|_| "done"))
+}
+
+// The same of one that gives a node.
+fn make(
+    rt: &impl Print,
+    table: &mut SymbolTable,
+    answer: Result<Inserted, Refusal>,
+) -> io::Result<()> {
+    *table = answer.map_or(*table, |made| made.table);
+    cases::print_answer(rt, answer.map(|made| made.node))
+}
+
+// Prints the answer to a question.
+fn answer(rt: &impl Print, table: &mut SymbolTable, asked: Asked) -> io::Result<()> {
+    let nx = asked.nx;
+    match asked.operation {
+        0 => change(rt, table, Ok(SymbolTable::new())),
+        1 => make(rt, table, table.insert(nx, asked.other, asked.value)),
+        2 => change(rt, table, table.update_data(nx, asked.value)),
+        3 => make(rt, table, table.ensure_index(nx, asked.path)),
+        4 => change(rt, table, table.export(nx, asked.other, asked.path)),
+        _ => print_answer(rt, asked, *table),
     }
+}
+
+fn main() {
+    let mut table = SymbolTable::new();
+    let _ = replay::answer_each(&Console, &mut [0u8; QUESTION], |rt, question| {
+        let ids = [6, 8, 10, 12].map(|at| little::u16_at(question, at));
+        answer(rt, &mut table, Asked::new(question, &ids))
+    });
 }

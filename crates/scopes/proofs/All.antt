@@ -1,8 +1,8 @@
 -- Laws of query_all: each scope is asked once, and what waits gets the next answer above it. Assumes nothing.
+use Rattle.std.specs.Prelude.{Option, None, Some}
 use mathlib.Core.Bool.{Bool, true, false, not}
 use mathlib.Core.Path.{◌≡◌, refl, sym, ap, ◌∙◌}
 use mathlib.Core.List.{List, [], ◌∷◌, ◌++◌, append_assoc, append-nil}
-use mathlib.Core.Option.{Option, none, some}
 use Prim.Native.Nat.{ℕ, zero, suc, ◌+◌, ◌-◌, ◌<◌, ◌≤◌}
 use native.Mathlib.Omega.{arith}
 use lib.ListN.{length, take, drop, replicate, length-append, length-drop, length-replicate, replicate-append-replicate}
@@ -10,10 +10,7 @@ use lib.Seq.{drop_at, drop-drop, length-take-le, take_at}
 use Rattle.refusals.specs.Memory.{over}
 use Rattle.refusals.proofs.Memory.{over_nothing}
 use Rattle.edges.specs.declared.Edge.{Edge}
-use Rattle.edges.specs.declared.Reached.{Reached}
-use Rattle.edges.specs.declared.Reached.TheVariants as reached
 use Rattle.scopes.specs.declared.Tally.{Tally}
-use Rattle.edges.specs.Says.{says_reached}
 use Rattle.edges.specs.Edges.{found, parent_of, walk_of, has, chain_of, chain, query_on, query_of, all_on, all_of}
 use Rattle.soundness.specs.Steps.{Ends}
 use Rattle.soundness.proofs.Rooted.{chain_alone, chain_rest}
@@ -38,20 +35,20 @@ part_filled xs ys a k e n end room filled =
     ∙ sym (append_assoc (take a xs) (replicate k n) (drop (a + length (replicate k n)) xs))
 
 -- of a list and a tally before: the tally and the list after a scope's own answer
-abbrev pub Noted : List ℕ → Tally → Bool → Reached → Tally → List ℕ → Type 0
+abbrev pub Noted : List ℕ → Tally → Bool → Option ℕ → Tally → List ℕ → Type 0
 Noted list t waits r u after =
-    (u ≡ tallied (says_reached r) waits t) × (after ≡ over list t.written (answers (says_reached r) (t.waiting + 1)))
+    (u ≡ tallied r waits t) × (after ≡ over list t.written (answers r (t.waiting + 1)))
 
-module _ (list : List ℕ) (t : Tally) (waits : Bool) {r : Reached} where
-  pub noted_node : {n : ℕ} {after : List ℕ} → r ≡ reached.At n → after ≡ over list t.written (replicate (t.waiting + 1) n)
+module _ (list : List ℕ) (t : Tally) (waits : Bool) {r : Option ℕ} where
+  pub noted_node : {n : ℕ} {after : List ℕ} → r ≡ Some n → after ≡ over list t.written (replicate (t.waiting + 1) n)
       → Noted list t waits r (record { written = t.written + t.waiting + 1; waiting = 0 }) after
   noted_node e f = rw e (refl, f)
 
-  pub noted_none : r ≡ reached.Nothing → waits ≡ true
+  pub noted_none : r ≡ None → waits ≡ true
       → Noted list t waits r (record { written = t.written; waiting = t.waiting + 1 }) list
   noted_none e h = rw (e, h) (refl, over_nothing list t.written)
 
-  pub noted_alone : r ≡ reached.Nothing → waits ≡ false → Noted list t waits r t list
+  pub noted_alone : r ≡ None → waits ≡ false → Noted list t waits r t list
   noted_alone e h = rw (e, h) (refl, over_nothing list t.written)
 
 -- so many answers and one more
@@ -60,8 +57,8 @@ answers_more k n xs = sym (append_assoc (replicate k n) (n ∷ []) xs) ∙ ap (�
 
 -- the answers for no scope
 answers_none : (q : Option ℕ) → answers q 0 ≡ []
-answers_none none = refl
-answers_none (some n) = refl
+answers_none None = refl
+answers_none (Some n) = refl
 
 -- ---- one scope
 
@@ -74,16 +71,16 @@ module _ (es : List Edge) (path : List ℕ) (s : ℕ) (ss : List ℕ) (t : Tally
 
   pub split : (w : Option ℕ) → walk_of es path s ≡ w → Split w
   unfolding query_on all_on
-  split (some n) e = rw (e, answers_none (query_on es path ss)) (answers_more t.waiting n (all_on es path ss))
-  split none e = go (has 0 path) refl
+  split (Some n) e = rw (e, answers_none (query_on es path ss)) (answers_more t.waiting n (all_on es path ss))
+  split None e = go (has 0 path) refl
     where
       waiting : (q : Option ℕ)
           → answers q t.waiting ++ found q (all_on es path ss) (λ n. n ∷ all_on es path ss)
           ≡ answers q (t.waiting + 1) ++ all_on es path ss
-      waiting none = refl
-      waiting (some n) = answers_more t.waiting n (all_on es path ss)
+      waiting None = refl
+      waiting (Some n) = answers_more t.waiting n (all_on es path ss)
 
-      go : (b : Bool) → has 0 path ≡ b → Split none
+      go : (b : Bool) → has 0 path ≡ b → Split None
       go true h = rw (e, h, alone h, answers_none (query_on es path ss))
       go false h = rw (e, h) (waiting (query_on es path ss))
 
@@ -120,27 +117,27 @@ chain_long es zero s = omega arith
 chain_long es (suc k) s = go (λ p. chain_long es k p) (parent_of es s)
   where
     go : ((p : ℕ) → length (chain_of es k p) ≤ k) → (f : Option ℕ) → length (s ∷ found f [] (λ p. chain_of es k p)) ≤ suc k
-    go ih (some p) = omega (arith, ih p)
-    go ih none = omega arith
+    go ih (Some p) = omega (arith, ih p)
+    go ih None = omega arith
 
 -- how many answers a scope adds
 answers_long : (w : Option ℕ) (waits : Bool) (t : Tally)
     → t.written + length (answers w (t.waiting + 1)) ≡ (tallied w waits t).written
-answers_long (some n) waits t = omega (arith, length-replicate (t.waiting + 1) n)
-answers_long none true t = omega arith
-answers_long none false t = omega arith
+answers_long (Some n) waits t = omega (arith, length-replicate (t.waiting + 1) n)
+answers_long None true t = omega arith
+answers_long None false t = omega arith
 
 -- with each scope, one place more is spoken for at most
 tallied_less : (w : Option ℕ) (waits : Bool) (t : Tally)
     → (tallied w waits t).written + (tallied w waits t).waiting ≤ t.written + t.waiting + 1
-tallied_less (some n) waits t = omega arith
-tallied_less none true t = omega arith
-tallied_less none false t = omega arith
+tallied_less (Some n) waits t = omega arith
+tallied_less None true t = omega arith
+tallied_less None false t = omega arith
 
 -- a path with a super lets no scope wait
 tallied_alone : (w : Option ℕ) (t : Tally) (b : Bool) → b ≡ true → t.waiting ≡ 0 → (tallied w (not b) t).waiting ≡ 0
-tallied_alone (some n) t b e z = refl
-tallied_alone none t b e z = rw e z
+tallied_alone (Some n) t b e z = refl
+tallied_alone None t b e z = rw e z
 
 -- from s the loop has come to `at`: what is listed, what the waiting scopes get, and what the chain from here answers, is all
 pub record AskedTo (es : List Edge) (path : List ℕ) (s : ℕ) (list : List ℕ) (at : ℕ) (t : Tally) : Type 0 where
@@ -206,8 +203,8 @@ module _ (es : List Edge) (path : List ℕ) (s : ℕ) where
         ∙ listed_more a.so_far (answers w (t.waiting + 1)) (omega (arith, a.written, place, fewer w))
       where
         fewer : (w : Option ℕ) → length (answers w (t.waiting + 1)) ≤ t.waiting + 1
-        fewer none = omega arith
-        fewer (some n) = omega (arith, length-replicate (t.waiting + 1) n)
+        fewer None = omega arith
+        fewer (Some n) = omega (arith, length-replicate (t.waiting + 1) n)
 
   module _ {list : List ℕ} {at : ℕ} {t : Tally} (a : AskedTo es path s list at t) where
     pub ask_length : length list ≡ 1024
@@ -217,13 +214,13 @@ module _ (es : List Edge) (path : List ℕ) (s : ℕ) where
     pub ask_room : t.written + t.waiting < length list
     ask_room = omega (arith, a.room, chain_some es at, ask_length)
 
-    module _ (r : Reached) (own : says_reached r ≡ walk_of es path at) {waits : Bool} (super : waits ≡ has 0 path)
+    module _ (r : Option ℕ) (own : r ≡ walk_of es path at) {waits : Bool} (super : waits ≡ has 0 path)
         {u : Tally} {after : List ℕ} (noted : Noted list t (not waits) r u after) where
-      tally_now : u ≡ tallied (says_reached r) (not (has 0 path)) t
-      tally_now = noted.0 ∙ ap (λ (b : Bool). tallied (says_reached r) (not b) t) super
+      tally_now : u ≡ tallied r (not (has 0 path)) t
+      tally_now = noted.0 ∙ ap (λ (b : Bool). tallied r (not b) t) super
 
       -- the scope above is next
-      pub ask_up : {p : ℕ} → parent_of es at ≡ some p → AskedTo es path s after p u
+      pub ask_up : {p : ℕ} → parent_of es at ≡ Some p → AskedTo es path s after p u
       unfolding query_of all_of
       ask_up {p} e =
           let above = chain_rest es at a.ends.1 a.ends.0 e in
@@ -233,11 +230,11 @@ module _ (es : List Edge) (path : List ℕ) (s : ℕ) where
             ends = (a.ends.0, above.0);
             written = now_long a (sym own) ss above.1 ∙ ap (λ (v : Tally). v.written) (sym tally_now);
             memory = now_listed a (sym own) ss above.1 noted.1;
-            alone = λ h. ap (λ (v : Tally). v.waiting) tally_now ∙ tallied_alone (says_reached r) t (has 0 path) h (a.alone h);
+            alone = λ h. ap (λ (v : Tally). v.waiting) tally_now ∙ tallied_alone r t (has 0 path) h (a.alone h);
             room = omega (
               arith,
               a.room,
-              tallied_less (says_reached r) (not (has 0 path)) t,
+              tallied_less r (not (has 0 path)) t,
               ap (λ (v : Tally). v.written) tally_now,
               ap (λ (v : Tally). v.waiting) tally_now,
               ap (λ (l : List ℕ). length l) above.1,
@@ -249,7 +246,7 @@ module _ (es : List Edge) (path : List ℕ) (s : ℕ) where
           }
 
       -- there is none above
-      pub ask_ends : parent_of es at ≡ none → (after ≡ listed (all_of es s path)) × (u.written ≡ length (all_of es s path))
+      pub ask_ends : parent_of es at ≡ None → (after ≡ listed (all_of es s path)) × (u.written ≡ length (all_of es s path))
       unfolding query_on all_on
       ask_ends e =
           let alone = chain_alone es at a.ends.1 e in

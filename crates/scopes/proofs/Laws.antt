@@ -1,8 +1,8 @@
 -- Laws of the query, scope by scope: in a sound table, and in edges that may be anything. Assumes nothing.
+use Rattle.std.specs.Prelude.{Option, None, Some}
 use mathlib.Core.Bool.{true, false, ◌&&◌}
 use mathlib.Core.Path.{◌≡◌, refl, ap, ◌∙◌}
 use mathlib.Core.List.{List}
-use mathlib.Core.Option.{Option, none, some}
 use Prim.Native.Nat.{ℕ, suc, ◌-◌, ◌<◌, ◌≤◌}
 use native.Mathlib.Omega.{arith}
 use lib.Dec.{eqb}
@@ -18,20 +18,20 @@ use Rattle.scopes.specs.Scopes.{query_all_in, listed, list_after}
 -- ---- one scope of a query
 
 module _ (es : List Edge) (s : ℕ) (r : rooted es s ≡ true) (path : List ℕ) where
-  pub query_here : {n : ℕ} → walk_of es path s ≡ some n → query_of es s path ≡ some n
+  pub query_here : {n : ℕ} → walk_of es path s ≡ Some n → query_of es s path ≡ Some n
   unfolding query_of query_on
   query_here w = rw ((chain_first es s r).1, w)
 
-  pub query_super : walk_of es path s ≡ none → has 0 path ≡ true → query_of es s path ≡ none
+  pub query_super : walk_of es path s ≡ None → has 0 path ≡ true → query_of es s path ≡ None
   unfolding query_of query_on
   query_super w h = rw ((chain_first es s r).1, w, h)
 
-  pub query_up : {p : ℕ} → parent_of es 0 ≡ none → walk_of es path s ≡ none → has 0 path ≡ false → parent_of es s ≡ some p
+  pub query_up : {p : ℕ} → parent_of es 0 ≡ None → walk_of es path s ≡ None → has 0 path ≡ false → parent_of es s ≡ Some p
       → query_of es s path ≡ query_of es p path
   unfolding query_of query_on
   query_up top w h e = rw ((chain_rest es s r top e).1, w, h)
 
-  pub query_top : walk_of es path s ≡ none → has 0 path ≡ false → parent_of es s ≡ none → query_of es s path ≡ none
+  pub query_top : walk_of es path s ≡ None → has 0 path ≡ false → parent_of es s ≡ None → query_of es s path ≡ None
   unfolding query_of query_on
   query_top w h e = rw (chain_alone es s r e, w, h)
 
@@ -41,7 +41,7 @@ module _ (es : List Edge) (path : List ℕ) (k s : ℕ) where
   abbrev left : ℕ → Option ℕ
   left n = query_on es path (chain_of es n s)
 
-  pub any_none : k ≤ 0 → left k ≡ none
+  pub any_none : k ≤ 0 → left k ≡ None
   unfolding query_on chain_of
   any_none h = let z : k ≡ 0 = omega arith in rw z
 
@@ -49,21 +49,21 @@ module _ (es : List Edge) (path : List ℕ) (k s : ℕ) where
     more : k ≡ suc (k - 1)
     more = omega arith
 
-    pub any_here : {n : ℕ} → walk_of es path s ≡ some n → left k ≡ some n
+    pub any_here : {n : ℕ} → walk_of es path s ≡ Some n → left k ≡ Some n
     unfolding query_on chain_of
     any_here w = ap left more ∙ rw w
 
-    module _ (w : walk_of es path s ≡ none) where
-      pub any_super : has 0 path ≡ true → left k ≡ none
+    module _ (w : walk_of es path s ≡ None) where
+      pub any_super : has 0 path ≡ true → left k ≡ None
       unfolding query_on chain_of
       any_super h = ap left more ∙ rw (w, h)
 
       module _ (h : has 0 path ≡ false) where
-        pub any_top : parent_of es s ≡ none → left k ≡ none
+        pub any_top : parent_of es s ≡ None → left k ≡ None
         unfolding query_on chain_of
         any_top e = ap left more ∙ rw (w, h, e)
 
-        pub any_up : {p : ℕ} → parent_of es s ≡ some p → left k ≡ query_on es path (chain_of es (k - 1) p)
+        pub any_up : {p : ℕ} → parent_of es s ≡ Some p → left k ≡ query_on es path (chain_of es (k - 1) p)
         unfolding query_on chain_of
         any_up e = ap left more ∙ rw (w, h, e)
 

@@ -1,4 +1,3 @@
 -- The definitions that the contracts of this crate cite.
 pub mod Scopes
-pub mod Says
 pub mod Steps

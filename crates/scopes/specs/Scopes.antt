@@ -1,6 +1,5 @@
 -- Document 01's query and query_all in a table of n nodes and k edges, with their refusals. Assumes nothing: these are definitions.
-use Rattle.std.specs.Prelude.{◌&&◌, List, ◌++◌, ℕ, ◌-◌, eqb, leb, length, replicate}
-use Rattle.std.proofs.Math.Option.{Option}
+use Rattle.std.specs.Prelude.{◌&&◌, List, ◌++◌, ℕ, ◌-◌, eqb, leb, length, replicate, Option}
 use Rattle.refusals.specs.Answer.{Answer, Done, Refused}
 use Rattle.edges.specs.declared.Edge.{Edge}
 use Rattle.edges.specs.Edges.{max_nodes, max_edges, is_path, query_of, all_of, edges_in}

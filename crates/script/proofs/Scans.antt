@@ -1,16 +1,18 @@
 -- A text read byte by byte: what its next byte is to each definition of its parts. Assumes nothing.
-use mathlib.Core.Bool.{Bool, true, false}
+use mathlib.Core.Bool.{Bool, true, false, cond, not}
 use mathlib.Core.List.{List, [], ◌∷◌}
 use mathlib.Core.Path.{◌≡◌, refl, sym, ap, ◌∙◌}
-use Prim.Native.Nat.{ℕ, zero, suc, ◌+◌, ◌-◌, ◌≤◌, ◌<◌}
+use Prim.Native.Nat.{ℕ, suc, ◌+◌, ◌-◌, ◌≤◌, ◌<◌}
 use native.Mathlib.Omega.{arith}
-use lib.Dec.{eqb}
-use lib.ListN.{length, get_or, take, drop, length-drop, drop_of_length-le}
+use lib.Dec.{eqb, ltb}
+use lib.ListN.{length, take, drop, length-drop, drop_of_length-le}
 use lib.Seq.{take_all}
-use borrow.Author.Tests.{eq-eqb, ne_eqb}
+use borrow.Author.Tests.{ltb-false}
 use Rattle.refusals.specs.Answer.{pick}
-use Rattle.page.proofs.Rests.{next_byte}
-use Rattle.script.specs.Parts.{until, behind, from, starts}
+use Rattle.std.specs.Prelude.{Some, None, position}
+use Rattle.std.specs.List.{position_or_len}
+use Rattle.refusals.proofs.Never.{never}
+use Rattle.script.specs.Parts.{until, behind, from}
 
 -- ---- a part of a text
 
@@ -19,64 +21,70 @@ pub all_from : (text : List ℕ) (at : ℕ) → take (length text - at) (drop at
 all_from text at = take_all (length text - at) (drop at text) (omega (arith, length-drop at text))
 
 module _ (mark : ℕ) where
-  -- as many bytes as stand before the first mark
-  pub take_until : (text : List ℕ) → take (length (until mark text)) text ≡ until mark text
-  take_until [] = refl
-  take_until (c ∷ cs) = go (eqb c mark) (take_until cs)
+  abbrev pub is_mark : ℕ → Bool
+  is_mark c = eqb c mark
+
+  -- how many bytes stand before the first mark
+  abbrev before : List ℕ → ℕ
+  before text = position_or_len is_mark text
+
+  one_more : (n : ℕ) → 1 + n ≡ suc n
+  one_more n = omega arith
+
+  take_before : (text : List ℕ) → take (before text) text ≡ until mark text
+  take_before [] = refl
+  take_before (c ∷ cs) = go (eqb c mark) (take_before cs)
     where
-      go : (b : Bool) → take (length (until mark cs)) cs ≡ until mark cs
-          → take (length (pick b [] (c ∷ until mark cs))) (c ∷ cs) ≡ pick b [] (c ∷ until mark cs)
+      go : (b : Bool) → take (before cs) cs ≡ until mark cs
+          → take (cond (not b) (1 + before cs) 0) (c ∷ cs) ≡ pick b [] (c ∷ until mark cs)
       go true e = refl
-      go false e = ap (λ (l : List ℕ). c ∷ l) e
+      go false e = ap (λ (n : ℕ). take n (c ∷ cs)) (one_more (before cs)) ∙ ap (λ (l : List ℕ). c ∷ l) e
 
-  -- behind one mark less
-  pub one_less : (text : List ℕ) (n : ℕ) → 0 < n → from mark n text ≡ from mark (n - 1) (behind mark text)
-  one_less text zero h = absurd (omega arith)
-  one_less text (suc n) h = let e : n ≡ suc n - 1 = omega arith in ap (λ (k : ℕ). from mark k (behind mark text)) e
+  drop_before : (text : List ℕ) → drop (suc (before text)) text ≡ behind mark text
+  drop_before [] = refl
+  drop_before (c ∷ cs) = go (eqb c mark) (drop_before cs)
+    where
+      go : (b : Bool) → drop (suc (before cs)) cs ≡ behind mark cs
+          → drop (suc (cond (not b) (1 + before cs) 0)) (c ∷ cs) ≡ pick b cs (behind mark cs)
+      go true e = refl
+      go false e = ap (λ (n : ℕ). drop n cs) (one_more (before cs)) ∙ e
 
-  -- ---- the next byte
+  -- ---- where the first mark stands
 
-  module _ (text : List ℕ) (i : ℕ) where
-    abbrev rest : List ℕ
-    rest = drop (i + 1) text
+  module _ (text : List ℕ) where
+    none_before : None ≡ position is_mark text → length text ≤ before text
+    none_before = go (ltb (before text) (length text)) refl
+      where
+        go : (b : Bool) → ltb (before text) (length text) ≡ b → None ≡ cond b (Some (before text)) None → length text ≤ before text
+        go true e h = never (cc)
+        go false e h = ltb-false _ _ e
 
-    module _ (h : i < length text) where
-      -- a mark
-      module _ (is : get_or text i 0 ≡ mark) where
-        pub until_mark : length (until mark (drop i text)) ≡ 0
-        until_mark = ap (λ (l : List ℕ). length (until mark l)) (next_byte text i h) ∙ simp (eq-eqb _ _ is) refl
+    some_before : {at : ℕ} → Some at ≡ position is_mark text → at ≡ before text
+    some_before {at} = go (ltb (before text) (length text))
+      where
+        go : (b : Bool) → Some at ≡ cond b (Some (before text)) None → at ≡ before text
+        go true h = cc
+        go false h = never (cc)
 
-        pub behind_mark : behind mark (drop i text) ≡ rest
-        behind_mark = ap (behind mark) (next_byte text i h) ∙ simp (eq-eqb _ _ is) refl
+    -- nowhere
+    pub all_until : None ≡ position is_mark text → text ≡ until mark text
+    all_until h = sym (take_all _ _ (none_before h)) ∙ take_before text
 
-      -- another
-      module _ (other : get_or text i 0 ≡ mark → ⊥) where
-        pub until_more : length (until mark (drop i text)) ≡ suc (length (until mark rest))
-        until_more = ap (λ (l : List ℕ). length (until mark l)) (next_byte text i h) ∙ simp (ne_eqb _ _ other) refl
+    pub none_behind : None ≡ position is_mark text → [] ≡ behind mark text
+    none_behind h =
+        let past : length text ≤ suc (before text) = omega (arith, none_before h) in
+        sym (drop_of_length-le _ past) ∙ drop_before text
 
-        pub behind_more : behind mark (drop i text) ≡ behind mark rest
-        behind_more = ap (behind mark) (next_byte text i h) ∙ simp (ne_eqb _ _ other) refl
+    -- here
+    pub until_mark : {at : ℕ} → Some at ≡ position is_mark text → take at text ≡ until mark text
+    until_mark h = ap (λ (n : ℕ). take n text) (some_before h) ∙ take_before text
 
-      -- any
-      pub starts_more : (before : ℕ) → starts mark before (drop i text) ≡ pick (eqb before mark) 1 0 + starts mark (get_or text i 0) rest
-      starts_more before = ap (starts mark before) (next_byte text i h)
+    pub behind_mark : {at : ℕ} → Some at ≡ position is_mark text → take (length text - (at + 1)) (drop (at + 1) text) ≡ behind mark text
+    behind_mark {at} h =
+        let next : at + 1 ≡ suc (before text) = omega (arith, some_before h) in
+        all_from text (at + 1) ∙ ap (λ (n : ℕ). drop n text) next ∙ drop_before text
 
-    -- none
-    module _ (h : length text ≤ i) where
-      pub until_end : length (until mark (drop i text)) ≡ 0
-      until_end = ap (λ (l : List ℕ). length (until mark l)) (drop_of_length-le _ h)
+  -- ---- behind some of the marks, behind the next one
 
-      pub behind_end : drop i text ≡ behind mark (drop i text)
-      behind_end = drop_of_length-le _ h ∙ sym (ap (behind mark) (drop_of_length-le _ h))
-
-      pub starts_end : (before : ℕ) → starts mark before (drop i text) ≡ 0
-      starts_end before = ap (starts mark before) (drop_of_length-le _ h)
-
--- ---- where a part begins
-
-pub one_at_most : (before mark : ℕ) {r : ℕ} → r ≡ pick (eqb before mark) 1 0 → r ≤ 1
-one_at_most before mark = go (eqb before mark)
-  where
-    go : (b : Bool) {r : ℕ} → r ≡ pick b 1 0 → r ≤ 1
-    go true e = omega arith
-    go false e = omega arith
+  pub next_mark : (text : List ℕ) (count i : ℕ) → i < count → from mark (count - i) text ≡ from mark (count - (i + 1)) (behind mark text)
+  next_mark text count i h = let e : count - i ≡ suc (count - (i + 1)) = omega arith in ap (λ (k : ℕ). from mark k text) e

@@ -3,4 +3,3 @@ pub mod Parts
 pub mod Words
 pub mod Numbers
 pub mod Commands
-pub mod Steps

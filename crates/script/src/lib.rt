@@ -2,13 +2,11 @@
 // what is not there is empty, or 0.
 #![tactic(auto)]
 
-ghost use Rattle.std.specs.Prelude.{◌≡◌, ◌≤◌, eqb, length};
-ghost use Rattle.refusals.specs.Answer.{pick};
-ghost use Rattle.script.specs.Parts.{until, from, starts};
+ghost use Rattle.std.specs.Prelude.{◌≡◌, eqb, position};
+ghost use Rattle.script.specs.Parts.{until, behind, from, starts};
 ghost use Rattle.script.specs.Words.{lines_in, line_of, words_in, word_of, words_from};
 ghost use Rattle.script.specs.Numbers.{with_digit, with_letter, number_in, number_of};
 ghost use Rattle.script.specs.Commands.{is_command, command_of, is_silent};
-ghost use Rattle.script.specs.Steps.{Next};
 
 // What stands between two lines, and between two words.
 const LINE_FEED: u8 = b'\n';
@@ -18,75 +16,55 @@ const BLANK: u8 = b' ';
 // What a comment begins with.
 const COMMENT: u8 = b'#';
 
-// 1 where a part begins, which is behind a mark; else 0.
-fn start(before: u8, mark: u8) -> usize
-    ensures { result ≡ pick (eqb before mark) 1 0 }
-{
-    if before == mark { 1 } else { 0 }
-}
-
 // How many parts begin in a text: one at its first byte, and one at each byte behind a mark.
 fn parts(text: &[u8], mark: u8) -> usize
     ensures { result ≡ starts mark mark text.now }
 {
     let mut count = 0;
     let mut before = mark;
-    let mut i = 0;
-    while i < text.len() {
-        count += start(before, mark);
-        before = text[i];
-        i += 1;
+    for byte in text {
+        count += usize::from(before == mark);
+        before = *byte;
     }
     count
 }
 
-// The offset behind the first mark from an offset on; the end where there is none.
-fn next(text: &[u8], mark: u8, begin: usize) -> usize
-    requires { begin ≤ length text.now }
-    ensures { Next text.now mark begin result }
+// The offset of the first mark.
+fn first(text: &[u8], mark: u8) -> Option<usize>
+    ensures { result ≡ position (λ c. eqb c mark) text.now }
 {
-    let mut at = begin;
-    while at < text.len() {
-        if text[at] == mark {
-            return at + 1;
-        }
-        at += 1;
-    }
-    at
-}
-
-// What stands behind so many marks.
-fn behind(text: &[u8], mark: u8, count: usize) -> &[u8]
-    ensures { result.now ≡ from mark count text.now }
-{
-    let mut at = 0;
-    let mut left = count;
-    while left > 0 {
-        at = next(text, mark, at);
-        left -= 1;
-    }
-    &text[at..]
-}
-
-// How many bytes stand before the first mark.
-fn length_before(text: &[u8], mark: u8) -> usize
-    ensures { result ≡ length (until mark text.now) }
-{
-    let mut i = 0;
-    while i < text.len() {
-        if text[i] == mark {
-            return i;
-        }
-        i += 1;
-    }
-    i
+    text.iter().position(|byte| *byte == mark)
 }
 
 // What stands before the first mark.
 fn before(text: &[u8], mark: u8) -> &[u8]
     ensures { result.now ≡ until mark text.now }
 {
-    page::cut(text, length_before(text, mark))
+    match first(text, mark) {
+        None => text,
+        Some(at) => &text[..at],
+    }
+}
+
+// What stands behind the first mark.
+fn behind_one(text: &[u8], mark: u8) -> &[u8]
+    ensures { result.now ≡ behind mark text.now }
+{
+    match first(text, mark) {
+        None => &[],
+        Some(at) => &text[at + 1..],
+    }
+}
+
+// What stands behind so many marks.
+fn behind(text: &[u8], mark: u8, count: usize) -> &[u8]
+    ensures { result.now ≡ from mark count text.now }
+{
+    let mut rest = text;
+    for i in 0..count {
+        rest = behind_one(rest, mark);
+    }
+    rest
 }
 
 // How many lines a text has.
@@ -126,13 +104,9 @@ pub fn words_from(line: &[u8], number: usize) -> &[u8]
 
 // A number with one digit more; the greatest where that is greater.
 fn with_digit(number: usize, digit: usize) -> usize
-    requires { digit ≤ 9 }
     ensures { result ≡ with_digit number digit }
 {
-    if (usize::MAX - digit) / 10 < number {
-        return usize::MAX;
-    }
-    10 * number + digit
+    number.saturating_mul(10).saturating_add(digit)
 }
 
 // A number with one letter more; what is no digit is left out.
@@ -150,10 +124,8 @@ fn number_in(word: &[u8]) -> usize
     ensures { result ≡ number_in 0 word.now }
 {
     let mut number = 0;
-    let mut i = 0;
-    while i < word.len() {
-        number = with_letter(number, word[i]);
-        i += 1;
+    for letter in word {
+        number = with_letter(number, *letter);
     }
     number
 }
@@ -177,22 +149,20 @@ pub fn command(line: &[u8], names: &[u8]) -> usize
     ensures { result ≡ command_of line.now names.now }
 {
     let count = words(names);
-    let mut i = 0;
-    while i < count {
+    for i in 0..count {
         if is_command(line, word(names, i)) {
             return i;
         }
-        i += 1;
     }
-    i
+    count
 }
 
 // Whether a line asks for nothing: it is empty or a comment.
 pub fn is_silent(line: &[u8]) -> bool
     ensures { result ≡ is_silent line.now }
 {
-    if line.len() == 0 {
-        return true;
+    match line {
+        [] => true,
+        [first, ..] => *first == COMMENT,
     }
-    line[0] == COMMENT
 }

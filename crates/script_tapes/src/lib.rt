@@ -13,15 +13,14 @@ fn put_times(room: &mut [u8], begin: usize, text: &[u8], times: usize) -> usize
     ensures { (result, room.new) ≡ laid room.old begin (repeated times (bytes_in text.now)) }
 {
     let mut at = begin;
-    let mut left = times;
-    while left > 0 {
+    for i in 0..times {
         at = page::put_hex(room, at, text);
-        left -= 1;
     }
     at
 }
 
 // Lays the bytes that a line has behind its command.
+#[tactic(auto, unfolding(crate::specs::Tapes::bytes_of))]
 pub fn put_bytes(room: &mut [u8], at: usize, line: &[u8]) -> usize
     ensures { (result, room.new) ≡ laid room.old at (bytes_of line.now) }
 {
@@ -48,28 +47,24 @@ fn put_labels(room: &mut [u8], begin: usize, last: usize) -> usize
     ensures { (result, room.new) ≡ laid room.old begin (labels_behind 0 last) }
 {
     let mut at = begin;
-    let mut id = 0;
-    while id < last {
-        id += 1;
+    for id in 1..=last {
         at = put_label(room, at, id);
     }
     at
 }
 
 // Whether a line makes a tape.
+#[tactic(auto, unfolding(crate::specs::Tapes::is_tape))]
 pub fn is_tape(line: &[u8]) -> bool
     ensures { result ≡ is_tape line.now }
 {
-    if script::is_command(line, b"tape") {
-        return true;
-    }
-    if script::is_command(line, b"more") {
-        return true;
-    }
-    script::is_command(line, b"labels")
+    script::is_command(line, b"tape")
+        || script::is_command(line, b"more")
+        || script::is_command(line, b"labels")
 }
 
 // Makes a tape, as a line says: `tape` begins it anew, `more` and `labels` go on behind its length.
+#[tactic(auto, unfolding(crate::specs::Tapes::tape_after))]
 pub fn put_tape(room: &mut [u8], length: usize, line: &[u8]) -> usize
     ensures { (result, room.new) ≡ tape_after room.old length line.now }
 {

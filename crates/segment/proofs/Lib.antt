@@ -1,4 +1,3 @@
--- The laws of pens that move and of images, what calls keep, and that each public call allows one answer.
-pub mod Laws
+-- What calls keep, and that each public call allows one answer.
 pub mod Kept
 pub mod Unique

@@ -1,10 +1,10 @@
 -- Climbing from node to parent: the way to the root has one length, no node twice, and is what `rooted` tests.
 -- Assumes nothing.
+use Rattle.std.specs.Prelude.{Option, None, Some}
 use mathlib.Core.Path.{◌≡◌, refl, sym, ap, ◌∙◌, subst}
 use mathlib.Core.Logic.{◌⊎◌, ⊎_elim}
 use mathlib.Core.Bool.{Bool, true, false, ◌&&◌, and-eq-true_iff, or-true}
 use mathlib.Core.List.{List, [], ◌∷◌}
-use mathlib.Core.Option.{Option, none, some}
 use Prim.Native.Nat.{ℕ, zero, suc, ◌+◌, ◌<◌, ◌≤◌}
 use native.Mathlib.Nat.{zero-add, suc-add, eq-or-lt_of_le, le_of_suc-le-suc, not-suc-le-zero}
 use native.Mathlib.Omega.{arith}
@@ -42,34 +42,34 @@ fit_more n m (e ∷ es) l ok =
     (and-eq-true_iff (fits m e) (all_fit m es)).1 (fit_is m e (omega arith) (omega arith) a.2 a.3, fit_more n m es l a.4)
 
 -- no edge leads into the root
-pub fit_top : (es : List Edge) (n : ℕ) → all_fit n es ≡ true → parent_of es 0 ≡ none
+pub fit_top : (es : List Edge) (n : ℕ) → all_fit n es ≡ true → parent_of es 0 ≡ None
 unfolding parent_of
 fit_top [] n ok = refl
 fit_top (e ∷ es) n ok =
     let a = fit_split n e es ok in
     rw (ne_eqb e.to 0 (λ q. omega arith)) (fit_top es n a.4)
 
-pub fit_parent : (es : List Edge) (n s p : ℕ) → all_fit n es ≡ true → parent_of es s ≡ some p → p < n
+pub fit_parent : (es : List Edge) (n s p : ℕ) → all_fit n es ≡ true → parent_of es s ≡ Some p → p < n
 unfolding parent_of
 fit_parent [] n s p ok e = never (cc)
 fit_parent (d ∷ es) n s p ok e = go (fit_parent es n s p (fit_split n d es ok).4) (eqb d.to s) refl
   where
-    go : (parent_of es s ≡ some p → p < n) → (b : Bool) → eqb d.to s ≡ b → p < n
+    go : (parent_of es s ≡ Some p → p < n) → (b : Bool) → eqb d.to s ≡ b → p < n
     go ih true q =
-        let here : some d.from ≡ some p = rw q at e in
+        let here : Some d.from ≡ Some p = rw q at e in
         let one : d.from ≡ p = cc in
         omega (arith, (fit_split n d es ok).0)
     go ih false q = ih (rw q at e)
 
 -- a child is a node
-pub fit_child : (es : List Edge) (n s x c : ℕ) → all_fit n es ≡ true → child_of es s x ≡ some c → c < n
+pub fit_child : (es : List Edge) (n s x c : ℕ) → all_fit n es ≡ true → child_of es s x ≡ Some c → c < n
 unfolding child_of
 fit_child [] n s x c ok e = never (cc)
 fit_child (d ∷ es) n s x c ok e = go (fit_child es n s x c (fit_split n d es ok).4) (eqb d.from s && eqb d.id x) refl
   where
-    go : (child_of es s x ≡ some c → c < n) → (b : Bool) → (eqb d.from s && eqb d.id x) ≡ b → c < n
+    go : (child_of es s x ≡ Some c → c < n) → (b : Bool) → (eqb d.from s && eqb d.id x) ≡ b → c < n
     go ih true q =
-        let here : some d.to ≡ some c = rw q at e in
+        let here : Some d.to ≡ Some c = rw q at e in
         let one : d.to ≡ c = cc in
         omega (arith, (fit_split n d es ok).1)
     go ih false q = ih (rw q at e)
@@ -79,7 +79,7 @@ fit_child (d ∷ es) n s x c ok e = go (fit_child es n s x c (fit_split n d es o
 -- j steps up from s end at t
 abbrev pub Up : List Edge → ℕ → ℕ → ℕ → Type 0
 Up es zero s t = s ≡ t
-Up es (suc j) s t = (p : ℕ) × (parent_of es s ≡ some p) × Up es j p t
+Up es (suc j) s t = (p : ℕ) × (parent_of es s ≡ Some p) × Up es j p t
 
 pub up_then : (es : List Edge) (i j s t u : ℕ) → Up es i s t → Up es j t u → Up es (i + j) s u
 up_then es zero j s t u a b =
@@ -207,8 +207,8 @@ has_up es (suc k) s t r = go (has_up es k) (eqb s t) refl (parent_of es s) refl
     go : ((p u : ℕ) → has u (chain_of es k p) ≡ true → (j : ℕ) × Up es j p u)
         → (b : Bool) → eqb s t ≡ b → (f : Option ℕ) → parent_of es s ≡ f → (j : ℕ) × Up es j s t
     go ih true e f q = (0, eqb-true s t e)
-    go ih false e none q = let nowhere : false ≡ true = rw (e, q) at r in never (cc)
-    go ih false e (some p) q = let w = ih p t (rw (e, q) at r) in (suc w.0, (p, q, w.1))
+    go ih false e None q = let nowhere : false ≡ true = rw (e, q) at r in never (cc)
+    go ih false e (Some p) q = let w = ih p t (rw (e, q) at r) in (suc w.0, (p, q, w.1))
 
 up_has : (es : List Edge) (k j s t : ℕ) → j < k → Up es j s t → has t (chain_of es k s) ≡ true
 unfolding has chain_of
@@ -247,7 +247,7 @@ new_off es n s ok l (suc j) w = new_off es n w.0 ok (fit_parent es n s w.0 ok w.
 -- ---- ways beside one edge more
 
 module _ (e : Edge) (es : List Edge) where
-  pub parent_new : (s : ℕ) → e.to ≡ s → parent_of (e ∷ es) s ≡ some e.from
+  pub parent_new : (s : ℕ) → e.to ≡ s → parent_of (e ∷ es) s ≡ Some e.from
   unfolding parent_of
   parent_new s h = rw (eq-eqb e.to s h)
 

@@ -1,10 +1,10 @@
 -- What the test of a table keeps on its way: whether the edges fit, the list of parents, and what the walks up the chains mark.
 -- Assumes nothing.
+use Rattle.std.specs.Prelude.{Option, None, Some}
 use mathlib.Core.Bool.{Bool, true, false, not, ◌&&◌, and-eq-true_iff, not-eq-not}
 use mathlib.Core.Path.{◌≡◌, refl, sym, ap, ◌∙◌, subst}
 use mathlib.Core.Logic.{◌⊎◌, inl, inr, ⊎_elim}
 use mathlib.Core.List.{List, [], ◌∷◌}
-use mathlib.Core.Option.{Option, none, some}
 use Prim.Native.Nat.{ℕ, zero, suc, ◌+◌, ◌-◌, ◌<◌, ◌≤◌}
 use native.Mathlib.Nat.{eq-or-lt_of_le, le_of_suc-le-suc, not-suc-le-zero}
 use native.Mathlib.Numerals.{add-one}
@@ -12,7 +12,7 @@ use native.Mathlib.Omega.{arith}
 use lib.Dec.{eqb, leb, ltb}
 use lib.ListN.{length, get_or, set, replicate, length-replicate}
 use lib.Seq.{get_or-set_same, get_or-set_other}
-use borrow.Author.Tests.{lt-ltb, leb-true, le-leb, lt-leb, eqb-true, eqb-false, ne_eqb}
+use borrow.Author.Tests.{lt-ltb, leb-true, le-leb, eqb-true, eqb-false, ne_eqb}
 use Rattle.refusals.proofs.Never.{never}
 use Rattle.refusals.proofs.Pick.{granted, denied}
 use Rattle.edges.specs.declared.Edge.{Edge}
@@ -100,8 +100,8 @@ unfolding Parents
 small_parents up es fit tells s below = go (parent_of es s) refl
   where
     go : (p : Option ℕ) → parent_of es s ≡ p → get_or up s 0 ≤ max_nodes
-    go none e = omega (arith, rw e at (tells s below))
-    go (some p) e = omega (arith, rw e at (tells s below), fit_parent es max_nodes s p fit e)
+    go None e = omega (arith, rw e at (tells s below))
+    go (Some p) e = omega (arith, rw e at (tells s below), fit_parent es max_nodes s p fit e)
 
 -- ---- marks
 
@@ -141,7 +141,7 @@ same_test false b f g = sym ((not-eq-not {b = false}).0 (λ holds. let no = g ho
 
 module _ (es : List Edge) (n : ℕ) (fit : all_fit n es ≡ true) (most : n ≤ max_nodes) where
   -- the chain of a node ends at the root where its parent's does
-  parent_same : (s p : ℕ) → s < n → parent_of es s ≡ some p → rooted es s ≡ rooted es p
+  parent_same : (s p : ℕ) → s < n → parent_of es s ≡ Some p → rooted es s ≡ rooted es p
   parent_same s p below e = same_test _ _ (λ r. let w = rooted_up es s r in down w.0 w.1) up
     where
       up : rooted es p ≡ true → rooted es s ≡ true
@@ -161,7 +161,7 @@ module _ (es : List Edge) (n : ℕ) (fit : all_fit n es ≡ true) (most : n ≤ 
       omega (arith, up_once es n z.0 (j + z.0) s fit z.1 (up_then es j z.0 s s 0 w z.1)))
 
   -- nor where there is no parent, but for the root
-  no_parent : (s : ℕ) → (s ≡ 0 → ⊥) → parent_of es s ≡ none → rooted es s ≡ false
+  no_parent : (s : ℕ) → (s ≡ 0 → ⊥) → parent_of es s ≡ None → rooted es s ≡ false
   no_parent s not_root e = (not-eq-not {b = false}).0 (λ r. let w = rooted_up es s r in never_up w.0 w.1)
     where
       never_up : (j : ℕ) → Up es j s 0 → ⊥
@@ -207,10 +207,10 @@ module _ {up seen : List ℕ} {es : List Edge} {n s at : ℕ} (tells : Tells up 
   walk_goes {p} inside free p-is some-parent = go (parent_of es at) refl
     where
       go : (o : Option ℕ) → parent_of es at ≡ o → Walked es n s (p - 1) (set seen at (s + 1))
-      go none e = absurd (some-parent (p-is ∙ listed_parent none e))
-      go (some q) e =
-          let q-is : q ≡ p - 1 = omega (arith, listed_parent (some q) e) in
-          let step = e ∙ ap some q-is in
+      go None e = absurd (some-parent (p-is ∙ listed_parent None e))
+      go (Some q) e =
+          let q-is : q ≡ p - 1 = omega (arith, listed_parent (Some q) e) in
+          let step = e ∙ ap Some q-is in
           let as-parent = parent_same es n tells.fit tells.most at (p - 1) walked.below step in
           record {
             below = fit_parent es n at (p - 1) tells.fit step;
@@ -233,8 +233,8 @@ module _ {up seen : List ℕ} {es : List Edge} {n s at : ℕ} (tells : Tells up 
   walk_stops free p-is no_more = go (parent_of es at) refl
     where
       go : (o : Option ℕ) → parent_of es at ≡ o → rooted es s ≡ false
-      go none e = walked.same ∙ no_parent es n tells.fit tells.most at (not_root free) e
-      go (some q) e = absurd (omega (arith, listed_parent (some q) e))
+      go None e = walked.same ∙ no_parent es n tells.fit tells.most at (not_root free) e
+      go (Some q) e = absurd (omega (arith, listed_parent (Some q) e))
 
   -- it meets a mark: its own, and the chain is a loop; or another, and all of its nodes are known
   pub walk_ends : (get_or seen at 0 ≡ 0 → ⊥) → let r = not (eqb (get_or seen at 0) (s + 1)) in
@@ -319,29 +319,10 @@ reach_fails es {n} {s} below bad walk = sym (bad_below (rooted es) n s below (de
 
 -- ---- the whole test
 
-module _ (n k : ℕ) (es : List Edge) where
-  pub no_nodes : n < 1 → false ≡ sound_edges n k es
-  unfolding sound_edges
-  no_nodes a = simp (lt-leb 1 n a)
-
-  module _ (some-nodes : 1 ≤ n) where
-    pub many_nodes : max_nodes < n → false ≡ sound_edges n k es
-    unfolding sound_edges
-    many_nodes b = simp (le-leb 1 n some-nodes, lt-leb n max_nodes b)
-
-    module _ (few_nodes : n ≤ max_nodes) where
-      pub many_edges : max_edges < k → false ≡ sound_edges n k es
-      unfolding sound_edges
-      many_edges d = simp (le-leb 1 n some-nodes, le-leb n max_nodes few_nodes, lt-leb k max_edges d)
-
-      module _ (few_edges : k ≤ max_edges) where
-        pub bad_edges : all_fit n es ≡ false → false ≡ sound_edges n k es
-        unfolding sound_edges
-        bad_edges e = simp (le-leb 1 n some-nodes, le-leb n max_nodes few_nodes, le-leb k max_edges few_edges, e)
-
-        pub good_edges : all_fit n es ≡ true → all_below n (rooted es) ≡ sound_edges n k es
-        unfolding sound_edges
-        good_edges e = simp (le-leb 1 n some-nodes, le-leb n max_nodes few_nodes, le-leb k max_edges few_edges, e)
+pub good_edges : (n k : ℕ) (es : List Edge) → 1 ≤ n → n ≤ max_nodes → k ≤ max_edges → all_fit n es ≡ true
+    → all_below n (rooted es) ≡ sound_edges n k es
+unfolding sound_edges
+good_edges n k es some few few-edges fit = simp (le-leb 1 n some, le-leb n max_nodes few, le-leb k max_edges few-edges, fit)
 
 -- ---- what it says
 

@@ -1,7 +1,6 @@
 -- What private functions promise each other on the way: the parents of all nodes as a list, and what marks on nodes say. No public
 -- promise cites these. Assumes nothing: these are definitions.
-use Rattle.std.specs.Prelude.{true, ◌≡◌, List, ℕ, ◌+◌, ◌<◌, ◌≤◌, get_or}
-use Rattle.std.proofs.Math.Option.{none}
+use Rattle.std.specs.Prelude.{true, ◌≡◌, List, ℕ, ◌+◌, ◌<◌, ◌≤◌, get_or, None}
 use Rattle.edges.specs.declared.Edge.{Edge}
 use Rattle.edges.specs.Edges.{root, max_nodes, found, parent_of}
 use Rattle.soundness.specs.Sound.{all_fit, rooted}
@@ -31,4 +30,4 @@ pub record Known (es : List Edge) (m : ℕ) (seen : List ℕ) : Type 0 where
 
 -- the chain of s ends at the root, which has no parent
 abbrev pub Ends : List Edge → ℕ → Type 0
-Ends es s = (parent_of es root ≡ none) × (rooted es s ≡ true)
+Ends es s = (parent_of es root ≡ None) × (rooted es s ≡ true)

@@ -14,26 +14,15 @@ use edges::{EDGES, Edge, NODES, SUPER, WORDS, edge_at, wide};
 pub fn is_node(links: &[u16; WORDS], n: usize, nodes: usize, nx: u16) -> bool
     ensures { result ≡ is_node_in nodes n (edges_in links.now n) nx }
 {
-    if !is_sound(links, n, nodes) {
-        return false;
-    }
-    wide(nx) < nodes
+    is_sound(links, n, nodes) && wide(nx) < nodes
 }
 
 // Whether nodes and edges, n of them, are a sound table.
+#[tactic(auto, unfolding(crate::specs::Sound::sound_edges))]
 fn is_sound(links: &[u16; WORDS], n: usize, nodes: usize) -> bool
     ensures { result ≡ sound_edges nodes n (edges_in links.now n) }
 {
-    if nodes < 1 {
-        return false;
-    }
-    if NODES < nodes {
-        return false;
-    }
-    if EDGES < n {
-        return false;
-    }
-    if !edges_fit(links, n, nodes) {
+    if nodes < 1 || NODES < nodes || EDGES < n || !edges_fit(links, n, nodes) {
         return false;
     }
     let up = parents(links, n);
@@ -46,9 +35,7 @@ fn edges_fit(links: &[u16; WORDS], n: usize, nodes: usize) -> bool
     requires { n ≤ max_edges }
     ensures { result ≡ all_fit nodes (edges_in links.now n) }
 {
-    let mut i = n;
-    while 0 < i {
-        i -= 1;
+    for i in (0..n).rev() {
         if !edge_fits(edge_at(links, i), nodes) {
             return false;
         }
@@ -57,19 +44,11 @@ fn edges_fit(links: &[u16; WORDS], n: usize, nodes: usize) -> bool
 }
 
 // Whether the edge joins two of the nodes, under a name, and does not lead into the root.
+#[tactic(auto, using(crate::proofs::Sound::not_zero), unfolding(crate::specs::Sound::fits))]
 fn edge_fits(edge: Edge, nodes: usize) -> bool
     ensures { result ≡ fits nodes edge }
 {
-    if nodes <= wide(edge.from) {
-        return false;
-    }
-    if nodes <= wide(edge.to) {
-        return false;
-    }
-    if edge.to == 0 {
-        return false;
-    }
-    edge.id != SUPER
+    wide(edge.from) < nodes && wide(edge.to) < nodes && edge.to != 0 && edge.id != SUPER
 }
 
 // Of each node its parent's number and 1, or 0 where it has none.
@@ -78,12 +57,9 @@ fn parents(links: &[u16; WORDS], n: usize) -> [u16; NODES]
     ensures { Parents result (edges_in links.now n) }
 {
     let mut up = [0u16; NODES];
-    let mut i = 0;
-    while i < n {
+    for i in 0..n {
         let edge = edge_at(links, i);
-        let to = wide(edge.to);
-        up[to] = edge.from + 1;
-        i += 1;
+        up[wide(edge.to)] = edge.from + 1;
     }
     up
 }
@@ -95,12 +71,10 @@ fn all_reach(up: &[u16; NODES], seen: &mut [u16; NODES], nodes: usize) -> bool
     ensures { (es : List Edge) → Tells up.now es nodes → result ≡ all_below nodes (rooted es) }
 {
     seen[0] = 1;
-    let mut s = 1;
-    while s < nodes {
+    for s in 1..nodes {
         if !reaches(up, seen, s) {
             return false;
         }
-        s += 1;
     }
     true
 }
@@ -115,6 +89,7 @@ fn reaches(up: &[u16; NODES], seen: &mut [u16; NODES], s: usize) -> bool
 {
     let own = s as u16 + 1;
     let mut at = s;
+    // The next node is read from the table of parents: no index is counted.
     while seen[at] == 0 {
         seen[at] = own;
         let p = wide(up[at]);

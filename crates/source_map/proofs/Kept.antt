@@ -15,7 +15,7 @@ use Rattle.refusals.proofs.Pick.{done_passed, done_value}
 use Rattle.refusals.proofs.Memory.{length_over}
 use Rattle.source_map.specs.declared.Entry.{Entry}
 use Rattle.source_map.specs.Entry.{in_range, moved, words_of, entry_at}
-use Rattle.source_map.specs.SourceMap.{count_in, entries_from, entries, words_of_all, stored, all_in_range, shaped, sound, of_map, clear, add, moved_all, move_offsets}
+use Rattle.source_map.specs.SourceMap.{count_in, entries_from, entries, words_of_all, stored, all_in_range, shaped, sound, clear, add, moved_all, move_offsets}
 use Rattle.source_map.proofs.Words.{length_words, length_entries}
 use Rattle.source_map.proofs.Laws.{sound_shape}
 
@@ -39,7 +39,7 @@ read_back before behind (e ∷ es) i h =
 module _ (m : List ℕ) (size : length m ≡ 16385) (es : List Entry) (room : length es ≤ 4096) where
   -- what is stored is read back
   pub entries_stored : entries (stored m es) ≡ es
-  unfolding entries count_in stored over
+  unfolding entries stored over
   entries_stored = read_back (length es ∷ []) (drop (0 + length (length es ∷ words_of_all es)) m) es 0 refl
 
   length_stored : length (stored m es) ≡ 16385
@@ -47,11 +47,10 @@ module _ (m : List ℕ) (size : length m ≡ 16385) (es : List Entry) (room : le
   length_stored = length_over m 0 (length es ∷ words_of_all es) (omega (arith, length_words es)) ∙ size
 
   count_stored : count_in (stored m es) ≡ length es
-  unfolding count_in stored over
+  unfolding stored over
   count_stored = refl
 
   pub stored_sound : all_in_range es ≡ true → sound (stored m es) ≡ true
-  unfolding sound shaped
   stored_sound good =
       let few : count_in (stored m es) ≤ 4096 = omega (arith, count_stored) in
       simp (eq-eqb _ _ length_stored, le-leb _ _ few) (ap all_in_range entries_stored ∙ good)
@@ -68,7 +67,7 @@ in_range_append (e ∷ es) fs h k =
     λ i. both.0 i && in_range_append es fs both.1 k i
 
 moved_in_range : (from to span : ℕ) → to ≤ 1023 → (e : Entry) → in_range e ≡ true → in_range (moved from to span e) ≡ true
-unfolding in_range moved
+unfolding moved
 moved_in_range from to span h e k = go (eqb e.scope from)
   where
     go : (t : Bool) → in_range (pick t (record { scope = to; span = span; pc = e.pc; len = e.len }) e) ≡ true
@@ -86,7 +85,7 @@ all_moved_in_range from to span h (e ∷ es) k =
 
 -- a sound map has the one length, its count of entries, and all of them in range
 has : (m : List ℕ) → sound m ≡ true → (length m ≡ 16385) × (length (entries m) ≡ count_in m) × (count_in m ≤ 4096) × (all_in_range (entries m) ≡ true)
-unfolding sound entries count_in
+unfolding entries
 has m h =
     let s = sound_shape m h in
     (s.size, length_entries m 0 (get_or m 0 0), s.count, ((and-eq-true_iff (shaped m) _).0 h).1)
@@ -95,14 +94,12 @@ keeps : (m : List ℕ) (es : List Entry) → length m ≡ 16385 → length es �
 keeps m es size room good = (stored_sound m size es room good, entries_stored m size es room)
 
 pub clear_kept : (m : List ℕ) {es : List Entry} → clear m ≡ Done es → Kept m es
-unfolding clear of_map
 clear_kept m e =
     let a = done_passed (sound m) (Done []) argument e in
     let h = has m a.0 in
     subst (Kept m) (done_value a.1) (keeps m [] h.0 (omega arith) refl)
 
 pub add_kept : (m : List ℕ) (e : Entry) {es : List Entry} → add m e ≡ Done es → Kept m es
-unfolding add of_map
 add_kept m e f =
     let a = done_passed (sound m) _ argument f in
     let b = done_passed (in_range e) _ argument a.1 in
@@ -113,7 +110,6 @@ add_kept m e f =
     subst (Kept m) (done_value c.1) (keeps m (entries m ++ e ∷ []) h.0 (omega arith) (in_range_append (entries m) (e ∷ []) h.3 (λ i. b.0 i && true)))
 
 pub move_offsets_kept : (m : List ℕ) (from to span : ℕ) {es : List Entry} → move_offsets m from to span ≡ Done es → Kept m es
-unfolding move_offsets of_map
 move_offsets_kept m from to span f =
     let a = done_passed (sound m) _ argument f in
     let b = done_passed (leb from 1023 && leb to 1023) (Done (moved_all from to span (entries m))) argument a.1 in

@@ -101,6 +101,6 @@ count_written (x ∷ xs) es n h e =
 
 -- a count that is theirs is as good as written
 pub count_kept : (m : List ℕ) (es : List Entry) → 1 ≤ length m → length es ≡ count_in m → holding m es ≡ stored m es
-unfolding holding over count_in
+unfolding holding over
 count_kept [] es h e = absurd (omega arith)
 count_kept (x ∷ xs) es h e = count_written (x ∷ xs) es x h e

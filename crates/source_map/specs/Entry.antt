@@ -11,11 +11,11 @@ abbrev pub last_scope : ℕ
 last_scope = 1023
 
 -- "place and length 0 to 65,536, scope 0 to 1,023, span any u32"
-unfoldable pub in_range : Entry → Bool
+abbrev pub in_range : Entry → Bool
 in_range e = leb e.scope last_scope && leb e.pc 65536 && leb e.len 65536
 
 -- "half-open range holds the address; length 0 never does"
-unfoldable pub holds : ℕ → Entry → Bool
+abbrev pub holds : ℕ → Entry → Bool
 holds address e = leb e.pc address && ltb address (e.pc + e.len)
 
 -- an entry of the scope `from` gets the scope `to` and the span; another stays

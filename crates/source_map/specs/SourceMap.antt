@@ -1,7 +1,6 @@
 -- Document 01's "Source map", over its entries in the order of adding, and how lent memory holds them. Assumes nothing: these
 -- are definitions.
-use Rattle.std.specs.Prelude.{Bool, true, ◌&&◌, ℕ, zero, suc, ◌+◌, ◌*◌, List, [], ◌∷◌, ◌++◌, map, eqb, leb, ltb, length, get_or}
-use Rattle.std.proofs.Math.Option.{Option, none, some}
+use Rattle.std.specs.Prelude.{Bool, true, ◌&&◌, ℕ, zero, suc, ◌+◌, ◌*◌, List, [], ◌∷◌, ◌++◌, map, eqb, leb, ltb, length, get_or, Option, None, Some}
 use Rattle.refusals.specs.Answer.{Answer, Done, Refused, pick}
 use Rattle.refusals.specs.Table.{argument, no_room}
 use Rattle.refusals.specs.Memory.{over}
@@ -15,7 +14,7 @@ abbrev pub capacity : ℕ
 capacity = 4096
 
 -- the first word says how many entries there are
-unfoldable pub count_in : List ℕ → ℕ
+abbrev pub count_in : List ℕ → ℕ
 count_in memory = get_or memory 0 0
 
 -- n entries, from number i on
@@ -42,15 +41,15 @@ all_in_range [] = true
 all_in_range (e ∷ es) = in_range e && all_in_range es
 
 -- memory of the one length there is, and a count that it has room for
-unfoldable pub shaped : List ℕ → Bool
+abbrev pub shaped : List ℕ → Bool
 shaped memory = eqb (length memory) (1 + width * capacity) && leb (count_in memory) capacity
 
 -- such memory, with entries in range
-unfoldable pub sound : List ℕ → Bool
+abbrev pub sound : List ℕ → Bool
 sound memory = shaped memory && all_in_range (entries memory)
 
 -- "A table, map or pen with a bad index [..] is a 1"
-unfoldable pub of_map : {A : Type 0} → List ℕ → Answer A → Answer A
+abbrev pub of_map : {A : Type 0} → List ℕ → Answer A → Answer A
 of_map memory a = pick (sound memory) a (Refused argument)
 
 -- "Refused calls leave table, map [..] unchanged": the memory after a call, by the entries that it gives
@@ -61,19 +60,19 @@ map_after memory (Refused n) = memory
 -- ---- the calls
 
 -- how many entries there are
-unfoldable pub count : List ℕ → Answer ℕ
+abbrev pub count : List ℕ → Answer ℕ
 count memory = of_map memory (Done (count_in memory))
 
 -- the entry of that number
-unfoldable pub entry : List ℕ → ℕ → Answer Entry
+abbrev pub entry : List ℕ → ℕ → Answer Entry
 entry memory i = of_map memory (pick (ltb i (count_in memory)) (Done (entry_at memory i)) (Refused argument))
 
 -- no entries
-unfoldable pub clear : List ℕ → Answer (List Entry)
+abbrev pub clear : List ℕ → Answer (List Entry)
 clear memory = of_map memory (Done [])
 
 -- one more entry, behind the others
-unfoldable pub add : List ℕ → Entry → Answer (List Entry)
+abbrev pub add : List ℕ → Entry → Answer (List Entry)
 add memory e =
     of_map memory
     (pick (in_range e)
@@ -82,17 +81,17 @@ add memory e =
 
 -- "first added entry whose half-open range holds the address"
 abbrev pub first_holding : ℕ → List Entry → Option Entry
-first_holding address [] = none
-first_holding address (e ∷ es) = pick (holds address e) (some e) (first_holding address es)
+first_holding address [] = None
+first_holding address (e ∷ es) = pick (holds address e) (Some e) (first_holding address es)
 
-unfoldable pub address_to_offset : List ℕ → ℕ → Answer (Option Entry)
+abbrev pub address_to_offset : List ℕ → ℕ → Answer (Option Entry)
 address_to_offset memory address = of_map memory (Done (first_holding address (entries memory)))
 
 -- every entry of the scope `from` gets the scope `to` and the span
 abbrev pub moved_all : ℕ → ℕ → ℕ → List Entry → List Entry
 moved_all from to span = map (moved from to span)
 
-unfoldable pub move_offsets : List ℕ → ℕ → ℕ → ℕ → Answer (List Entry)
+abbrev pub move_offsets : List ℕ → ℕ → ℕ → ℕ → Answer (List Entry)
 move_offsets memory from to span =
     of_map memory
     (pick (leb from last_scope && leb to last_scope)

@@ -5,14 +5,14 @@
 #![tactic(auto)]
 
 ghost use Rattle.std.specs.Prelude.{true, ◌≡◌, ◌+◌, ◌*◌, ◌≤◌, length};
-ghost use Rattle.refusals.specs.Answer.{outcome, pick};
+ghost use Rattle.refusals.specs.Answer.{outcome};
 ghost use Rattle.refusals.specs.Memory.{over};
 ghost use Rattle.refusals.specs.Says.{says};
 ghost use Rattle.source_map.specs.Entry.{entry_at, words_of, in_range, holds, moved};
-ghost use Rattle.source_map.specs.SourceMap.{shaped, sound, entries, stored, map_after, count, entry, clear, add, address_to_offset, moved_all, move_offsets};
-ghost use Rattle.source_map.specs.Says.{says_count, says_entry, says_found};
+ghost use Rattle.source_map.specs.SourceMap.{shaped, sound, entries, stored, map_after};
+ghost use Rattle.source_map.specs.SourceMap.{count, entry, clear, add, address_to_offset, moved_all, move_offsets};
 
-use refusals::{ARGUMENT, NO_ROOM, Outcome};
+use refusals::Refusal;
 
 // How many words a map's memory has: the count, and four for each of 4,096 entries.
 pub const WORDS: usize = 16385;
@@ -30,7 +30,7 @@ const LAST_SCOPE: u32 = 1023;
 const SIZE: u32 = 65536;
 
 // The bytes from pc on, len of them, came from this span of the source, in this scope.
-#[derive(Clone, Copy)]
+#[derive(Clone, Copy, Debug, PartialEq, Eq)]
 pub struct Entry {
     pub scope: u32,
     pub span: u32,
@@ -38,132 +38,99 @@ pub struct Entry {
     pub len: u32,
 }
 
-#[derive(Clone, Copy)]
-pub enum Count {
-    Is(usize),
-    Refused(u8),
-}
-
-#[derive(Clone, Copy)]
-pub enum OneEntry {
-    Is(Entry),
-    Refused(u8),
-}
-
-#[derive(Clone, Copy)]
-pub enum Found {
-    Offset(Entry),
-    Nothing,
-    Refused(u8),
-}
-
 // Forgets all entries.
-pub fn clear(map: &mut [u32]) -> Outcome
+#[tactic(auto, using(crate::proofs::Laws::stored_none))]
+pub fn clear(map: &mut [u32]) -> Result<(), Refusal>
     ensures { (says result ≡ outcome (clear map.old)) × (map.new ≡ map_after map.old (clear map.old)) }
 {
     if !is_sound(map) {
-        return Outcome::Refused(ARGUMENT);
+        return Err(Refusal::Argument);
     }
     map[0] = 0;
-    Outcome::Done
+    Ok(())
 }
 
 // How many entries there are.
-pub fn len(map: &[u32]) -> Count
-    ensures { says_count result ≡ count map.now }
+pub fn len(map: &[u32]) -> Result<usize, Refusal>
+    ensures { says result ≡ count map.now }
 {
     if !is_sound(map) {
-        return Count::Refused(ARGUMENT);
+        return Err(Refusal::Argument);
     }
-    Count::Is(map[0] as usize)
+    Ok(map[0] as usize)
 }
 
 // The entry that was added as number `index`, from 0.
-pub fn entry_at(map: &[u32], index: usize) -> OneEntry
-    ensures { says_entry result ≡ entry map.now index }
+pub fn entry_at(map: &[u32], index: usize) -> Result<Entry, Refusal>
+    ensures { says result ≡ entry map.now index }
 {
-    if !is_sound(map) {
-        return OneEntry::Refused(ARGUMENT);
+    if is_sound(map) && index < map[0] as usize {
+        Ok(read_entry(map, index))
+    } else {
+        Err(Refusal::Argument)
     }
-    if map[0] as usize <= index {
-        return OneEntry::Refused(ARGUMENT);
-    }
-    OneEntry::Is(read_entry(map, index))
 }
 
 // Adds an entry behind the others.
-pub fn add(map: &mut [u32], offset: Entry) -> Outcome
+#[tactic(auto, using(crate::proofs::Laws::add_stored))]
+pub fn add(map: &mut [u32], offset: Entry) -> Result<(), Refusal>
     ensures { (says result ≡ outcome (add map.old offset)) × (map.new ≡ map_after map.old (add map.old offset)) }
 {
-    if !is_sound(map) {
-        return Outcome::Refused(ARGUMENT);
-    }
-    if !is_in_range(offset) {
-        return Outcome::Refused(ARGUMENT);
+    if !is_sound(map) || !is_in_range(offset) {
+        return Err(Refusal::Argument);
     }
     let count = map[0];
     if CAPACITY <= count as usize {
-        return Outcome::Refused(NO_ROOM);
+        return Err(Refusal::NoRoom);
     }
     write_entry(map, count as usize, offset);
     map[0] = count + 1;
-    Outcome::Done
+    Ok(())
 }
 
 // The first added entry whose bytes hold the address. One pass: it goes from the last entry to the first, so that the entry
 // that stays is the first, and tests on its way that the map is sound.
-pub fn address_to_offset(map: &[u32], pc: u32) -> Found
-    ensures { says_found result ≡ address_to_offset map.now pc }
+pub fn address_to_offset(map: &[u32], pc: u32) -> Result<Option<Entry>, Refusal>
+    ensures { says result ≡ address_to_offset map.now pc }
 {
     if !has_shape(map) {
-        return Found::Refused(ARGUMENT);
+        return Err(Refusal::Argument);
     }
     let count = map[0] as usize;
-    let mut first = count;
-    let mut i = count;
-    while 0 < i {
-        i -= 1;
+    let mut first = None;
+    for i in (0..count).rev() {
         let offset = read_entry(map, i);
         if !is_in_range(offset) {
-            return Found::Refused(ARGUMENT);
+            return Err(Refusal::Argument);
         }
-        first = nearer(offset, pc, i, first);
+        if holds(offset, pc) {
+            first = Some(offset);
+        }
     }
-    if first < count {
-        return Found::Offset(read_entry(map, first));
-    }
-    Found::Nothing
+    Ok(first)
 }
 
 // Gives every entry of one scope another scope and another span.
-pub fn move_offsets(map: &mut [u32], from: u32, to: u32, span: u32) -> Outcome
+pub fn move_offsets(map: &mut [u32], from: u32, to: u32, span: u32) -> Result<(), Refusal>
     ensures { (says result ≡ outcome (move_offsets map.old from to span))
         × (map.new ≡ map_after map.old (move_offsets map.old from to span)) }
 {
-    if !is_sound(map) {
-        return Outcome::Refused(ARGUMENT);
-    }
-    if LAST_SCOPE < from {
-        return Outcome::Refused(ARGUMENT);
-    }
-    if LAST_SCOPE < to {
-        return Outcome::Refused(ARGUMENT);
+    if !is_sound(map) || LAST_SCOPE < from || LAST_SCOPE < to {
+        return Err(Refusal::Argument);
     }
     move_all(map, from, to, span);
-    Outcome::Done
+    Ok(())
 }
 
 // Whether the memory has the length of a map, and a count that it has room for.
 fn has_shape(map: &[u32]) -> bool
     ensures { result ≡ shaped map.now }
 {
-    if map.len() != WORDS {
-        return false;
-    }
-    map[0] as usize <= CAPACITY
+    map.len() == WORDS && map[0] as usize <= CAPACITY
 }
 
 // Whether the memory is a map: its shape, and every entry in range.
+#[tactic(auto, using(crate::proofs::Loops::rest_all, crate::proofs::Loops::good_entry))]
 fn is_sound(map: &[u32]) -> bool
     ensures { result ≡ sound map.now }
 {
@@ -171,12 +138,10 @@ fn is_sound(map: &[u32]) -> bool
         return false;
     }
     let count = map[0] as usize;
-    let mut i = 0;
-    while i < count {
+    for i in 0..count {
         if !is_in_range(read_entry(map, i)) {
             return false;
         }
-        i += 1;
     }
     true
 }
@@ -185,45 +150,34 @@ fn is_sound(map: &[u32]) -> bool
 fn is_in_range(offset: Entry) -> bool
     ensures { result ≡ in_range offset }
 {
-    if LAST_SCOPE < offset.scope {
-        return false;
-    }
-    if SIZE < offset.pc {
-        return false;
-    }
-    offset.len <= SIZE
+    offset.scope <= LAST_SCOPE && offset.pc <= SIZE && offset.len <= SIZE
 }
 
-// The number i where the entry holds the address, else the other.
-fn nearer(offset: Entry, pc: u32, i: usize, other: usize) -> usize
-    ensures { result ≡ pick (holds pc offset) i other }
+// Whether the entry's bytes hold the address.
+fn holds(offset: Entry, pc: u32) -> bool
+    ensures { result ≡ holds pc offset }
 {
-    if pc < offset.pc {
-        return other;
-    }
-    if pc - offset.pc < offset.len {
-        i
-    } else {
-        other
-    }
+    offset.pc <= pc && pc - offset.pc < offset.len
 }
 
 // The entry with the new scope and span, if it is of that scope.
+#[tactic(auto, unfolding(crate::specs::Entry::moved))]
 fn renamed(offset: Entry, from: u32, to: u32, span: u32) -> Entry
     ensures { result ≡ moved from to span offset }
 {
-    if offset.scope != from {
-        return offset;
-    }
-    Entry {
-        scope: to,
-        span,
-        pc: offset.pc,
-        len: offset.len,
+    if offset.scope == from {
+        Entry {
+            scope: to,
+            span,
+            ..offset
+        }
+    } else {
+        offset
     }
 }
 
 // Entry i of the memory.
+#[tactic(auto, unfolding(crate::specs::Entry::entry_at))]
 fn read_entry(map: &[u32], i: usize) -> Entry
     requires { 5 + 4 * i ≤ length map.now }
     ensures { result ≡ entry_at map.now i }
@@ -238,6 +192,7 @@ fn read_entry(map: &[u32], i: usize) -> Entry
 }
 
 // Writes entry i of the memory.
+#[tactic(auto, using(crate::proofs::Words::four_stores))]
 fn write_entry(map: &mut [u32], i: usize, offset: Entry)
     requires { 5 + 4 * i ≤ length map.old }
     ensures { map.new ≡ over map.old (1 + 4 * i) (words_of offset) }
@@ -255,10 +210,8 @@ fn move_all(map: &mut [u32], from: u32, to: u32, span: u32)
     ensures { map.new ≡ stored map.old (moved_all from to span (entries map.old)) }
 {
     let count = map[0] as usize;
-    let mut i = 0;
-    while i < count {
+    for i in 0..count {
         let offset = read_entry(map, i);
         write_entry(map, i, renamed(offset, from, to, span));
-        i += 1;
     }
 }

@@ -1,8 +1,8 @@
 -- What the tests of a call say, and which answer the definitions give behind them. Assumes nothing.
+use Rattle.std.specs.Prelude.{Option, None}
 use mathlib.Core.Bool.{true, ◌&&◌, and-eq-true_iff}
 use mathlib.Core.Path.{◌≡◌, sym, ap, ◌∙◌}
 use mathlib.Core.List.{List, [], ◌∷◌}
-use mathlib.Core.Option.{Option, none}
 use Prim.Native.Nat.{ℕ, zero, suc, ◌+◌, ◌-◌, ◌<◌, ◌≤◌}
 use native.Mathlib.Nat.{not-suc-le-zero}
 use native.Mathlib.Omega.{arith}
@@ -24,25 +24,28 @@ use Rattle.symbols.specs.Symbols.{edges_of, is_node, with_edge, with_node, inser
 
 -- ---- insert
 
-module _ (t : SymbolTable) (s x : ℕ) (d : Option ℤ) {r : Answer (Unit {0})}
-    (told : r ≡ may_insert t.nodes t.edges (edges_of t) s x tt) where
+module _ (t : SymbolTable) (s x : ℕ) (d : Option ℤ) where
+  abbrev MayInsert : Answer (Unit {0}) → Type 0
+  MayInsert r = r ≡ may_insert t.nodes t.edges (edges_of t) s x tt
+
   -- the table and the node in the place of what the test gave back
-  insert_told : mapped (λ _. (inserted t s x d, t.nodes)) r ≡ insert t s x d
+  insert_told : {r : Answer (Unit {0})} → MayInsert r → mapped (λ _. (inserted t s x d, t.nodes)) r ≡ insert t s x d
   unfolding insert
-  insert_told =
+  insert_told told =
       ap (mapped (λ _. (inserted t s x d, t.nodes))) told
       ∙ sym (insert_other tt (inserted t s x d, t.nodes) t.nodes t.edges (edges_of t) s x)
 
-  pub insert_refused : {why : ℕ} → r ≡ Refused why → Refused why ≡ insert t s x d
-  insert_refused e = ap (mapped (λ _. (inserted t s x d, t.nodes))) (sym e) ∙ insert_told
+  pub insert_refused : {why : ℕ} → MayInsert (Refused why) → Refused why ≡ insert t s x d
+  insert_refused told = insert_told told
 
-  pub insert_done : r ≡ Done tt → Done (inserted t s x d, t.nodes) ≡ insert t s x d
-  insert_done e = ap (mapped (λ _. (inserted t s x d, t.nodes))) (sym e) ∙ insert_told
+  module _ (told : MayInsert (Done tt)) where
+    pub insert_done : Done (inserted t s x d, t.nodes) ≡ insert t s x d
+    insert_done = insert_told told
 
-  pub insert_room : r ≡ Done tt → (t.nodes + 1 ≤ 1024) × (t.edges + 1 ≤ 2048)
-  insert_room e =
-      let a = done_passed (is_node t s && is_name x) (of_room t.nodes t.edges 1 1 tt) argument (sym told ∙ e) in
-      room_has _ _ (done_passed (room (t.nodes + 1) (t.edges + 1)) (Done tt) no_room a.1).0
+    pub insert_room : (t.nodes + 1 ≤ 1024) × (t.edges + 1 ≤ 2048)
+    insert_room =
+        let a = done_passed (is_node t s && is_name x) (of_room t.nodes t.edges 1 1 tt) argument (sym told) in
+        room_has _ _ (done_passed (room (t.nodes + 1) (t.edges + 1)) (Done tt) no_room a.1).0
 
 -- ---- ensure_index
 
@@ -50,24 +53,27 @@ module _ (t : SymbolTable) (s x : ℕ) (d : Option ℤ) {r : Answer (Unit {0})}
 to_the_end : (path : List ℕ) (d : ℕ) → take (length path - d) (drop d path) ≡ drop d path
 to_the_end path d = ap (λ (k : ℕ). take k (drop d path)) (sym (length-drop d path)) ∙ take-length (drop d path)
 
-module _ (t : SymbolTable) (s : ℕ) (path : List ℕ) {r : Answer There}
-    (told : r ≡ may_ensure t.nodes t.edges (edges_of t) s path (there_of (edges_of t) s path)) where
+module _ (t : SymbolTable) (s : ℕ) (path : List ℕ) where
   abbrev there : ℕ × List ℕ
   there = deepest (edges_of t) s path
 
-  ensure_told : mapped (λ _. grown t there.0 there.1) r ≡ ensure_index t s path
+  -- the test, which gives back where new nodes begin
+  abbrev MayEnsure : Answer There → Type 0
+  MayEnsure r = r ≡ may_ensure t.nodes t.edges (edges_of t) s path (there_of (edges_of t) s path)
+
+  ensure_told : {r : Answer There} → MayEnsure r → mapped (λ _. grown t there.0 there.1) r ≡ ensure_index t s path
   unfolding ensure_index
-  ensure_told =
+  ensure_told told =
       ap (mapped (λ _. grown t there.0 there.1)) told
       ∙ sym (ensure_other _ (grown t there.0 there.1) t.nodes t.edges (edges_of t) s path)
 
-  pub ensure_refused : {why : ℕ} → r ≡ Refused why → Refused why ≡ ensure_index t s path
-  ensure_refused e = ap (mapped (λ _. grown t there.0 there.1)) (sym e) ∙ ensure_told
+  pub ensure_refused : {why : ℕ} → MayEnsure (Refused why) → Refused why ≡ ensure_index t s path
+  ensure_refused told = ensure_told told
 
-  module _ {u : There} (e : r ≡ Done u) where
+  module _ {u : There} (told : MayEnsure (Done u)) where
     ensure_there : u ≡ there_of (edges_of t) s path
     ensure_there =
-        done_value (sym e ∙ told ∙ ensure_other _ _ t.nodes t.edges (edges_of t) s path ∙ ap (mapped (λ _. _)) (sym told ∙ e))
+        done_value (told ∙ ensure_other _ _ t.nodes t.edges (edges_of t) s path ∙ ap (mapped (λ _. _)) (sym told))
 
     pub ensure_few : u.depth ≤ length path
     ensure_few = omega (arith, ap (λ (v : There). v.depth) ensure_there, there_few (edges_of t) s path)
@@ -83,16 +89,13 @@ module _ (t : SymbolTable) (s : ℕ) (path : List ℕ) {r : Answer There}
 
     pub ensure_done : let names = take (length path - u.depth) (drop u.depth path) in
         Done (grown t u.node names) ≡ ensure_index t s path
-    ensure_done =
-        (λ i. Done (grown t (ensure_node i) (ensure_names i)))
-        ∙ ap (mapped (λ _. grown t there.0 there.1)) (sym e)
-        ∙ ensure_told
+    ensure_done = (λ i. Done (grown t (ensure_node i) (ensure_names i))) ∙ ensure_told told
 
     pub ensure_room : let missing = length (take (length path - u.depth) (drop u.depth path)) in
         (t.nodes + missing ≤ 1024) × (t.edges + missing ≤ 2048)
     ensure_room =
         let m : ℕ = length there.1 in
-        let a = done_passed (is_node t s && is_new_path path) (of_room t.nodes t.edges m m _) argument (sym told ∙ e) in
+        let a = done_passed (is_node t s && is_new_path path) (of_room t.nodes t.edges m m _) argument (sym told) in
         let b = room_has _ _ (done_passed (room (t.nodes + m) (t.edges + m)) (Done _) no_room a.1).0 in
         let same = ap (λ (l : List ℕ). length l) ensure_names in
         (omega (arith, b.0, same), omega (arith, b.1, same))
@@ -103,7 +106,7 @@ module _ (t : SymbolTable) (s : ℕ) (path : List ℕ) {r : Answer There}
 pub grown_edges : (t : SymbolTable) (s : ℕ) (names : List ℕ) → (grown t s names).0.edges ≡ t.edges + length names
 unfolding grown with_edge with_node
 grown_edges t s [] = omega arith
-grown_edges t s (x ∷ names) = grown_edges (inserted t s x none) t.nodes names ∙ omega arith
+grown_edges t s (x ∷ names) = grown_edges (inserted t s x None) t.nodes names ∙ omega arith
 
 -- the part of a path from d on, up to k
 part : (path : List ℕ) (d k : ℕ) → d ≤ k → k ≤ length path → drop d (take k path) ≡ take (k - d) (drop d path)
@@ -114,24 +117,26 @@ part (x ∷ path) (suc d) (suc k) l h =
     part path d k (omega arith) (omega arith)
     ∙ (let e : k - d ≡ suc k - suc d = omega arith in ap (λ (j : ℕ). take j (drop d path)) e)
 
-module _ (t : SymbolTable) (n s : ℕ) (path : List ℕ) {r : Answer There}
-    (told : r ≡ may_export t.nodes t.edges (edges_of t) n s path (there_of (edges_of t) s (front path))) where
+module _ (t : SymbolTable) (n s : ℕ) (path : List ℕ) where
   abbrev above : ℕ × List ℕ
   above = deepest (edges_of t) s (front path)
 
-  export_told : mapped (λ _. exported t n above (last_id path)) r ≡ export t n s path
+  abbrev MayExport : Answer There → Type 0
+  MayExport r = r ≡ may_export t.nodes t.edges (edges_of t) n s path (there_of (edges_of t) s (front path))
+
+  export_told : {r : Answer There} → MayExport r → mapped (λ _. exported t n above (last_id path)) r ≡ export t n s path
   unfolding export
-  export_told =
+  export_told told =
       ap (mapped (λ _. exported t n above (last_id path))) told
       ∙ sym (export_other _ (exported t n above (last_id path)) t.nodes t.edges (edges_of t) n s path)
 
-  pub export_refused : {why : ℕ} → r ≡ Refused why → Refused why ≡ export t n s path
-  export_refused e = ap (mapped (λ _. exported t n above (last_id path))) (sym e) ∙ export_told
+  pub export_refused : {why : ℕ} → MayExport (Refused why) → Refused why ≡ export t n s path
+  export_refused told = export_told told
 
-  module _ {u : There} (e : r ≡ Done u) where
+  module _ {u : There} (told : MayExport (Done u)) where
     export_there : u ≡ there_of (edges_of t) s (front path)
     export_there =
-        done_value (sym e ∙ told ∙ export_other _ _ t.nodes t.edges (edges_of t) n s path ∙ ap (mapped (λ _. _)) (sym told ∙ e))
+        done_value (told ∙ export_other _ _ t.nodes t.edges (edges_of t) n s path ∙ ap (mapped (λ _. _)) (sym told))
 
     -- the tests passed, one behind the other
     passed : let m = length above.1 in
@@ -140,7 +145,7 @@ module _ (t : SymbolTable) (n s : ℕ) (path : List ℕ) {r : Answer There}
     passed =
         let m : ℕ = length above.1 in
         let here = is_node t s && is_node t n && is_new_path path && ltb 0 (length path) in
-        let a = done_passed here _ argument (sym told ∙ e) in
+        let a = done_passed here _ argument (sym told) in
         let b = done_missed (has n (chain (edges_of t) above.0)) _ loop a.1 in
         let c = done_missed (eqb m 0 && taken (edges_of t) above.0 (last_id path) n) _ name_taken b.1 in
         (a.0, (done_passed (room (t.nodes + m) (t.edges + (m + 1))) _ no_room c.1).0)
@@ -175,9 +180,7 @@ module _ (t : SymbolTable) (n s : ℕ) (path : List ℕ) {r : Answer There}
     pub export_done : let names = take (length path - 1 - u.depth) (drop u.depth path) in
         Done (exported t n (u.node, names) (last_id path)) ≡ export t n s path
     export_done =
-        (λ i. Done (exported t n (export_node i, export_names i) (last_id path)))
-        ∙ ap (mapped (λ _. exported t n above (last_id path))) (sym e)
-        ∙ export_told
+        (λ i. Done (exported t n (export_node i, export_names i) (last_id path))) ∙ export_told told
 
     pub export_room : let missing = length (take (length path - 1 - u.depth) (drop u.depth path)) in
         (t.nodes + missing ≤ 1024) × (t.edges + missing < 2048)

@@ -1,9 +1,9 @@
 -- What a table with more edges and nodes has: it is sound, names mean what they meant, and ways to the root are as they were.
 -- Assumes nothing.
+use Rattle.std.specs.Prelude.{Option, None, Some}
 use mathlib.Core.Bool.{Bool, true, false, ◌&&◌, ◌||◌, and-eq-true_iff}
 use mathlib.Core.Path.{◌≡◌, refl, sym, ap, ◌∙◌, subst}
 use mathlib.Core.List.{List, [], ◌∷◌, ◌++◌, append_assoc}
-use mathlib.Core.Option.{Option, none, some}
 use Prim.Native.Nat.{ℕ, zero, suc, ◌+◌, ◌*◌, ◌-◌, ◌<◌, ◌≤◌}
 use native.Mathlib.Nat.{not-suc-le-zero}
 use native.Mathlib.Numerals.{add-one}
@@ -90,8 +90,8 @@ abbrev pub Sound : SymbolTable → Type 0
 Sound t = SoundEdges t.nodes t.edges (edges_of t)
 
 -- how long a table's lists are
-abbrev pub lengths : SymbolTable → ℕ × ℕ × ℕ
-lengths t = (length t.links, length t.known, length t.number)
+abbrev pub lengths : SymbolTable → ℕ × ℕ
+lengths t = (length t.links, length t.numbers)
 
 module _ (t : SymbolTable) where
   pub edges_data : (n : ℕ) (d : Option ℤ) → edges_of (with_data t n d) ≡ edges_of t
@@ -118,35 +118,35 @@ module _ (t : SymbolTable) where
     pub lengths_edge : lengths (with_edge t s x n) ≡ lengths t
     unfolding with_edge
     lengths_edge =
-        ap (λ (k : ℕ). (k, length t.known, length t.number))
+        ap (λ (k : ℕ). (k, length t.numbers))
         (length_over t.links (3 * t.edges) (s ∷ x ∷ n ∷ []) (omega arith))
 
 -- ---- names that go on to mean what they mean
 
 -- a name that means a node among the edges es means it among fs
 abbrev pub Holds : List Edge → List Edge → Type 0
-Holds es fs = (s x c : ℕ) → child_of es s x ≡ some c → child_of fs s x ≡ some c
+Holds es fs = (s x c : ℕ) → child_of es s x ≡ Some c → child_of fs s x ≡ Some c
 
 module _ (e : Edge) (es : List Edge) where
-  pub child_new : child_of (e ∷ es) e.from e.id ≡ some e.to
+  pub child_new : child_of (e ∷ es) e.from e.id ≡ Some e.to
   unfolding child_of
   child_new = rw (eq-eqb e.from e.from refl, eq-eqb e.id e.id refl)
 
   -- one edge more, under a name that is new there or leads to the same node
-  pub holds_edge : ((c : ℕ) → child_of es e.from e.id ≡ some c → c ≡ e.to) → Holds es (e ∷ es)
+  pub holds_edge : ((c : ℕ) → child_of es e.from e.id ≡ Some c → c ≡ e.to) → Holds es (e ∷ es)
   unfolding child_of
   holds_edge same s x c h = go (eqb e.from s && eqb e.id x) refl
     where
-      go : (b : Bool) → (eqb e.from s && eqb e.id x) ≡ b → child_of (e ∷ es) s x ≡ some c
+      go : (b : Bool) → (eqb e.from s && eqb e.id x) ≡ b → child_of (e ∷ es) s x ≡ Some c
       go true q =
           let a = (and-eq-true_iff (eqb e.from s) (eqb e.id x)).0 q in
           let here : child_of es e.from e.id ≡ child_of es s x =
           λ i. child_of es (eqb-true e.from s a.0 i) (eqb-true e.id x a.1 i) in
-          rw q (ap some (sym (same c (here ∙ h))))
+          rw q (ap Some (sym (same c (here ∙ h))))
       go false q = rw q h
 
 -- a node that is yet to be made has no children
-childless : (es : List Edge) (n s x : ℕ) → all_fit n es ≡ true → n ≤ s → child_of es s x ≡ none
+childless : (es : List Edge) (n s x : ℕ) → all_fit n es ≡ true → n ≤ s → child_of es s x ≡ None
 unfolding child_of
 childless [] n s x ok l = refl
 childless (e ∷ es) n s x ok l =
@@ -154,21 +154,21 @@ childless (e ∷ es) n s x ok l =
     rw (ne_eqb e.from s (λ q. omega arith)) (childless es n s x a.4 l)
 
 -- one name of a path
-pub walk_on : (es : List Edge) (s x : ℕ) (xs : List ℕ) (c : ℕ) → (x ≡ 0 → ⊥) → child_of es s x ≡ some c
+pub walk_on : (es : List Edge) (s x : ℕ) (xs : List ℕ) (c : ℕ) → (x ≡ 0 → ⊥) → child_of es s x ≡ Some c
     → walk_of es (x ∷ xs) s ≡ walk_of es xs c
 unfolding walk_of step_of
 walk_on es s x xs c h e = rw (ne_eqb x 0 h, e)
 
 -- a path behind another
-pub walk_append : (es : List Edge) (xs ys : List ℕ) (s n : ℕ) → walk_of es xs s ≡ some n → walk_of es (xs ++ ys) s ≡ walk_of es ys n
+pub walk_append : (es : List Edge) (xs ys : List ℕ) (s n : ℕ) → walk_of es xs s ≡ Some n → walk_of es (xs ++ ys) s ≡ walk_of es ys n
 unfolding walk_of
 walk_append es [] ys s n w = let here : s ≡ n = cc in ap (walk_of es ys) here
 walk_append es (x ∷ xs) ys s n w = go (walk_append es xs ys) (step_of es s x) refl
   where
-    go : ((c m : ℕ) → walk_of es xs c ≡ some m → walk_of es (xs ++ ys) c ≡ walk_of es ys m)
+    go : ((c m : ℕ) → walk_of es xs c ≡ Some m → walk_of es (xs ++ ys) c ≡ walk_of es ys m)
         → (f : Option ℕ) → step_of es s x ≡ f → walk_of es ((x ∷ xs) ++ ys) s ≡ walk_of es ys n
-    go ih none e = let nowhere : none ≡ some n = rw e at w in never (cc)
-    go ih (some c) e = rw e (ih c n (rw e at w))
+    go ih None e = let nowhere : None ≡ Some n = rw e at w in never (cc)
+    go ih (Some c) e = rw e (ih c n (rw e at w))
 
 -- ---- names of a path
 
@@ -203,9 +203,9 @@ get_or_not x (y ∷ ys) (suc i) h l = get_or_not x ys i (has_not x y ys h).1 (om
 -- the first name is new
 abbrev pub Missing : List Edge → ℕ → List ℕ → Type 0
 Missing es s [] = Unit {0}
-Missing es s (x ∷ xs) = child_of es s x ≡ none
+Missing es s (x ∷ xs) = child_of es s x ≡ None
 
-pub all_missing : (es : List Edge) (s : ℕ) (xs : List ℕ) → ((x : ℕ) → child_of es s x ≡ none) → Missing es s xs
+pub all_missing : (es : List Edge) (s : ℕ) (xs : List ℕ) → ((x : ℕ) → child_of es s x ≡ None) → Missing es s xs
 all_missing es s [] h = tt
 all_missing es s (x ∷ xs) h = h x
 
@@ -225,8 +225,8 @@ deepest_is es n s (x ∷ path) ok l h = go (λ c. deepest_is es n c path ok) (ch
     go : ((c : ℕ) → c < n → has 0 path ≡ false → Deepest n es c path (deepest es c path).0 (deepest es c path).1)
         → (f : Option ℕ) → child_of es s x ≡ f
         → Deepest n es s (x ∷ path) (deepest es s (x ∷ path)).0 (deepest es s (x ∷ path)).1
-    go ih none e = rw e (record { node = l; names = h; missing = e; walk = λ fs on. refl })
-    go ih (some c) e =
+    go ih None e = rw e (record { node = l; names = h; missing = e; walk = λ fs on. refl })
+    go ih (Some c) e =
         let name = has_not 0 x path h in
         let d = ih c (fit_child es n s x c ok e) name.1 in
         rw e
@@ -284,15 +284,15 @@ module _ (t : SymbolTable) (s x : ℕ) (d : Option ℤ) (h : Place t s x) where
       let es : List Edge = edges_of t in
       rw edges_inserted (λ off j w. off (suc j) (s, parent_new edge es t.nodes refl, up_old edge es j s m its_end w))
 
-  pub inserted_child : child_of (edges_of (inserted t s x d)) s x ≡ some t.nodes
+  pub inserted_child : child_of (edges_of (inserted t s x d)) s x ≡ Some t.nodes
   unfolding edge
   inserted_child = rw edges_inserted (child_new edge (edges_of t))
 
-  inserted_holds : child_of (edges_of t) s x ≡ none → Holds (edges_of t) (edges_of (inserted t s x d))
+  inserted_holds : child_of (edges_of t) s x ≡ None → Holds (edges_of t) (edges_of (inserted t s x d))
   unfolding edge
   inserted_holds missing = rw edges_inserted (holds_edge edge (edges_of t) (λ c e. never (cc)))
 
-  pub inserted_childless : (y : ℕ) → child_of (edges_of (inserted t s x d)) t.nodes y ≡ none
+  pub inserted_childless : (y : ℕ) → child_of (edges_of (inserted t s x d)) t.nodes y ≡ None
   unfolding edge child_of
   inserted_childless y =
       let other = ne_eqb s t.nodes (λ q. omega arith) in
@@ -312,8 +312,8 @@ pub record Grown (t : SymbolTable) (s : ℕ) (xs : List ℕ) (u : SymbolTable) (
   pub off : (m : ℕ) → m < t.nodes → Off (edges_of t) s m → Off (edges_of u) n m
   pub on : (m : ℕ) → Off (edges_of u) n m → Off (edges_of t) s m
   pub holds : Holds (edges_of t) (edges_of u)
-  pub walk : (fs : List Edge) → Holds (edges_of u) fs → walk_of fs xs s ≡ some n
-  pub below : (x c : ℕ) → child_of (edges_of u) n x ≡ some c → (length xs ≡ 0) × (child_of (edges_of t) s x ≡ some c)
+  pub walk : (fs : List Edge) → Holds (edges_of u) fs → walk_of fs xs s ≡ Some n
+  pub below : (x c : ℕ) → child_of (edges_of u) n x ≡ Some c → (length xs ≡ 0) × (child_of (edges_of t) s x ≡ Some c)
 
 pub grown_is : (xs : List ℕ) (t : SymbolTable) (s : ℕ) → Sound t → length t.links ≡ 6144 → s < t.nodes → has 0 xs ≡ false
     → Missing (edges_of t) s xs → t.nodes + length xs ≤ 1024 → t.edges + length xs ≤ 2048
@@ -341,12 +341,12 @@ grown_is (x ∷ xs) t s h size node names missing nodes edges =
       nodes = omega arith;
       edges = omega arith;
     } in
-    let u : SymbolTable = inserted t s x none in
+    let u : SymbolTable = inserted t s x None in
     let n : ℕ = t.nodes in
-    let as_long = lengths_inserted t s x none place in
-    let bare = inserted_childless t s x none place in
+    let as_long = lengths_inserted t s x None place in
+    let bare = inserted_childless t s x None place in
     let g = grown_is xs u n
-    (inserted_sound t s x none place) (ap (λ l. l.0) as_long ∙ size) (omega arith) name.1
+    (inserted_sound t s x None place) (ap (λ l. l.0) as_long ∙ size) (omega arith) name.1
     (all_missing (edges_of u) n xs bare) (omega arith) (omega arith) in
     record {
       is_sound = g.is_sound;
@@ -354,9 +354,9 @@ grown_is (x ∷ xs) t s h size node names missing nodes edges =
       nodes = omega (arith, g.nodes);
       edges = omega (arith, g.edges);
       node = g.node;
-      off = λ m l o. g.off m (omega arith) (inserted_off t s x none place m l o);
-      on = λ m o. inserted_on t s x none place m (g.on m o);
-      holds = λ a y c e. g.holds a y c (inserted_holds t s x none place missing a y c e);
-      walk = λ fs on. walk_on fs s x xs n name.0 (on s x n (g.holds s x n (inserted_child t s x none place))) ∙ g.walk fs on;
+      off = λ m l o. g.off m (omega arith) (inserted_off t s x None place m l o);
+      on = λ m o. inserted_on t s x None place m (g.on m o);
+      holds = λ a y c e. g.holds a y c (inserted_holds t s x None place missing a y c e);
+      walk = λ fs on. walk_on fs s x xs n name.0 (on s x n (g.holds s x n (inserted_child t s x None place))) ∙ g.walk fs on;
       below = λ y c e. let here = (g.below y c e).1 in let nothing = bare y in never (cc);
     }

@@ -1,14 +1,14 @@
 -- What a build that begins with `new` may rely on: a table that a call gives is sound, and what the call made is found.
 -- Assumes nothing.
+use Rattle.std.specs.Prelude.{Option, None, Some}
 use mathlib.Core.Bool.{Bool, true, false, not, ◌&&◌, and-eq-true_iff}
 use mathlib.Core.Path.{◌≡◌, refl, sym, ap, ◌∙◌, subst}
 use mathlib.Core.List.{List, [], ◌∷◌}
-use mathlib.Core.Option.{Option, none, some}
 use Prim.Native.Nat.{ℕ, zero, suc, ◌+◌, ◌-◌, ◌<◌}
 use native.Mathlib.Omega.{arith}
 use lib.Dec.{eqb, ltb}
-use lib.IntN.{ℤ, pos}
-use lib.ListN.{length, set, length-replicate}
+use lib.IntN.{ℤ}
+use lib.ListN.{length, length-replicate}
 use lib.Seq.{get_or-set_same}
 use borrow.Author.Tests.{le-leb, ltb-true, lt-ltb, eqb-true, eq-eqb, not-true, not-false}
 use Rattle.refusals.specs.Answer.{Done, pick}
@@ -21,7 +21,7 @@ use Rattle.edges.specs.Edges.{is_path, found, child_of, parent_of, step_of, walk
 use Rattle.soundness.specs.Sound.{all_fit, all_below, rooted, sound_edges}
 use Rattle.scopes.specs.Scopes.{query_in, query_edges}
 use Rattle.growth.specs.Growth.{is_name, is_new_path, room, front, last_id, export_from}
-use Rattle.symbols.specs.Symbols.{edges_of, new, sound, is_node, number_at, is_known, number_or0, with_data, with_edge, with_node, inserted, grown, get, insert, update_data, query, ensure_index, exported, export}
+use Rattle.symbols.specs.Symbols.{edges_of, new, sound, is_node, number_at, with_data, with_edge, with_node, inserted, grown, get, insert, update_data, query, ensure_index, exported, export}
 use Rattle.growth.proofs.Laws.{room_has}
 use Rattle.soundness.proofs.Sound.{sound_has, sound_is}
 use Rattle.soundness.proofs.Chains.{Up, Off, has_off, fit_parent, fit_child}
@@ -82,16 +82,16 @@ ensure_has t s path {u} e size =
     (d, subst (λ (v : SymbolTable × ℕ). Grown t there.0 there.1 v.0 v.1) (done_value b.1) g)
 
 -- a name that is not taken means no other node than n
-not_taken : (es : List Edge) (s x n c : ℕ) → taken es s x n ≡ false → child_of es s x ≡ some c → c ≡ n
+not_taken : (es : List Edge) (s x n c : ℕ) → taken es s x n ≡ false → child_of es s x ≡ Some c → c ≡ n
 unfolding taken elsewhere child_of
 not_taken [] s x n c h e = never (cc)
 not_taken (d ∷ es) s x n c h e = go (not_taken es s x n c) (eqb d.from s && eqb d.id x) refl
   where
-    go : (taken es s x n ≡ false → child_of es s x ≡ some c → c ≡ n)
+    go : (taken es s x n ≡ false → child_of es s x ≡ Some c → c ≡ n)
         → (b : Bool) → (eqb d.from s && eqb d.id x) ≡ b → c ≡ n
     go ih true q =
         let a : not (eqb d.to n) ≡ false = rw q at (either_not (elsewhere s x n d) (taken es s x n) h).0 in
-        let here : some d.to ≡ some c = rw q at e in
+        let here : Some d.to ≡ Some c = rw q at e in
         let end = eqb-true d.to n (not-false _ a) in
         cc
     go ih false q = ih (either_not (elsewhere s x n d) (taken es s x n) h).1 (rw q at e)
@@ -105,7 +105,7 @@ record Exported (t : SymbolTable) (n s : ℕ) (path : List ℕ) (d : ℕ) (xs : 
   node : n < t.nodes
   below_root : 0 < n
   off : Off (edges_of t) d n
-  same : (c : ℕ) → child_of (edges_of v) f (last_id path) ≡ some c → c ≡ n
+  same : (c : ℕ) → child_of (edges_of v) f (last_id path) ≡ Some c → c ≡ n
   free : v.edges < 2048
 
 -- the last edge
@@ -135,7 +135,7 @@ module _
       (omega arith) g.is_sound.few_nodes h.free g.node (omega arith) h.below_root h.name
       (λ i l q. l) (g.off n h.node h.off))
 
-  exported_walk : walk_of (edges_of (with_edge v f (last_id path) n)) path s ≡ some n
+  exported_walk : walk_of (edges_of (with_edge v f (last_id path) n)) path s ≡ Some n
   unfolding walk_of last
   exported_walk =
       let fs : List Edge = last ∷ edges_of v in
@@ -202,7 +202,7 @@ pub new_sound : sound new ≡ true
 unfolding new sound_edges edges_in all_fit all_below rooted has chain chain_of parent_of
 new_sound = refl
 
-pub new_lengths : lengths new ≡ (6144, 1024, 1024)
+pub new_lengths : lengths new ≡ (6144, 1024)
 unfolding new
 new_lengths = simp length-replicate
 
@@ -220,10 +220,10 @@ module _
       let a = insert_has t s x d e size in
       ap (λ (v : SymbolTable × ℕ). lengths v.0) (sym a.1) ∙ lengths_inserted t s x d a.0
 
-  pub inserted_found : child_of (edges_of u.0) s x ≡ some u.1
+  pub inserted_found : child_of (edges_of u.0) s x ≡ Some u.1
   inserted_found =
       let a = insert_has t s x d e size in
-      subst (λ (v : SymbolTable × ℕ). child_of (edges_of v.0) s x ≡ some v.1) a.1 (inserted_child t s x d a.0)
+      subst (λ (v : SymbolTable × ℕ). child_of (edges_of v.0) s x ≡ Some v.1) a.1 (inserted_child t s x d a.0)
 
 module _ (t : SymbolTable) (s : ℕ) (d : Option ℤ) {u : SymbolTable} (e : update_data t s d ≡ Done u) where
   pub update_sound : sound u ≡ true
@@ -242,7 +242,7 @@ module _
   pub ensure_lengths : lengths u.0 ≡ lengths t
   ensure_lengths = (ensure_has t s path e size).1.same_lengths
 
-  pub ensured_found : walk_of (edges_of u.0) path s ≡ some u.1
+  pub ensured_found : walk_of (edges_of u.0) path s ≡ Some u.1
   ensured_found =
       let a = ensure_has t s path e size in
       let es : List Edge = edges_of u.0 in
@@ -261,32 +261,26 @@ module _
       let a = export_has t n s path e size in
       ap lengths (sym a.1) ∙ exported_lengths a.0 size
 
-  pub exported_found : walk_of (edges_of u) path s ≡ some n
+  pub exported_found : walk_of (edges_of u) path s ≡ Some n
   exported_found =
       let a = export_has t n s path e size in
       ap (λ (v : SymbolTable). walk_of (edges_of v) path s) (sym a.1) ∙ exported_walk a.0 size
 
 -- ---- a number that a call gives a node is read back
 
-data_read : (known : List Bool) (number : List ℤ) (n : ℕ) (d : Option ℤ) → n < length known → n < length number
-    → number_at (set known n (is_known d)) (set number n (number_or0 d)) n ≡ d
-unfolding number_at
-data_read known number n none k l = rw (get_or-set_same known n false false k)
-data_read known number n (some z) k l = rw (get_or-set_same known n true false k, get_or-set_same number n z (pos 0) l)
-
 get_is : (t : SymbolTable) (s : ℕ) (d : Option ℤ) → sound t ≡ true → s < t.nodes
-    → number_at t.known t.number s ≡ d → get t s ≡ Done d
+    → number_at t.numbers s ≡ d → get t s ≡ Done d
 unfolding get
 get_is t s d h l e = rw (h, lt-ltb s t.nodes l, e)
 
-module _ (t : SymbolTable) (s : ℕ) (d : Option ℤ) (known : length t.known ≡ 1024) (number : length t.number ≡ 1024) where
+module _ (t : SymbolTable) (s : ℕ) (d : Option ℤ) (many : length t.numbers ≡ 1024) where
   pub updated_read : {u : SymbolTable} → update_data t s d ≡ Done u → get u s ≡ Done d
   unfolding with_data
   updated_read e =
       let a = update_has t s d e in
       let few = (sound_has t.nodes t.edges (edges_of t) a.0).few_nodes in
       subst (λ (v : SymbolTable). get v s ≡ Done d) a.2
-      (get_is (with_data t s d) s d a.0 a.1 (data_read t.known t.number s d (omega arith) (omega arith)))
+      (get_is (with_data t s d) s d a.0 a.1 (get_or-set_same t.numbers s d None (omega arith)))
 
   pub inserted_read : (x : ℕ) {u : SymbolTable × ℕ} → insert t s x d ≡ Done u → length t.links ≡ 6144
       → get u.0 u.1 ≡ Done d
@@ -296,7 +290,7 @@ module _ (t : SymbolTable) (s : ℕ) (d : Option ℤ) (known : length t.known �
       let h = inserted_sound t s x d a.0 in
       subst (λ (v : SymbolTable × ℕ). get v.0 v.1 ≡ Done d) a.1
       (get_is (inserted t s x d) t.nodes d (sound_table (inserted t s x d) h) (omega arith)
-      (data_read t.known t.number t.nodes d (omega arith) (omega arith)))
+      (get_or-set_same t.numbers t.nodes d None (omega arith)))
 
 -- ---- what is lent is asked as the table is
 
@@ -307,37 +301,37 @@ query_lent t s path h = rw (h, le-leb _ _ (node_is t s h).0.few_edges)
 -- ---- what is found is a node
 
 module _ (es : List Edge) (n : ℕ) (fit : all_fit n es ≡ true) where
-  step_node : (s x : ℕ) {m : ℕ} → step_of es s x ≡ some m → m < n
+  step_node : (s x : ℕ) {m : ℕ} → step_of es s x ≡ Some m → m < n
   unfolding step_of
   step_node s x {m} e = go (eqb x 0) e
     where
-      go : (b : Bool) → pick b (parent_of es s) (child_of es s x) ≡ some m → m < n
+      go : (b : Bool) → pick b (parent_of es s) (child_of es s x) ≡ Some m → m < n
       go true e = fit_parent es n s m fit e
       go false e = fit_child es n s x m fit e
 
-  walk_node : (path : List ℕ) (s : ℕ) {m : ℕ} → s < n → walk_of es path s ≡ some m → m < n
+  walk_node : (path : List ℕ) (s : ℕ) {m : ℕ} → s < n → walk_of es path s ≡ Some m → m < n
   unfolding walk_of
   walk_node [] s {m} h e = let q : s ≡ m = cc in omega arith
   walk_node (x ∷ xs) s {m} h e = go (step_of es s x) refl e (λ t l. walk_node xs t l)
     where
-      go : (r : Option ℕ) → step_of es s x ≡ r → found r none (λ t. walk_of es xs t) ≡ some m
-          → ((t : ℕ) → t < n → walk_of es xs t ≡ some m → m < n) → m < n
-      go none p e f = never (cc)
-      go (some t) p e f = f t (step_node s x p) e
+      go : (r : Option ℕ) → step_of es s x ≡ r → found r None (λ t. walk_of es xs t) ≡ Some m
+          → ((t : ℕ) → t < n → walk_of es xs t ≡ Some m → m < n) → m < n
+      go None p e f = never (cc)
+      go (Some t) p e f = f t (step_node s x p) e
 
-  query_on_node : (k s : ℕ) (path : List ℕ) {m : ℕ} → s < n → query_on es path (chain_of es k s) ≡ some m → m < n
+  query_on_node : (k s : ℕ) (path : List ℕ) {m : ℕ} → s < n → query_on es path (chain_of es k s) ≡ Some m → m < n
   unfolding query_on chain_of
   query_on_node zero s path h e = never (cc)
   query_on_node (suc k) s path {m} h e = go (walk_of es path s) refl (has 0 path) (parent_of es s) refl e (λ u l. query_on_node k u path l)
     where
       go : (w : Option ℕ) → walk_of es path s ≡ w → (b : Bool) (p : Option ℕ) → parent_of es s ≡ p
-          → found w (pick b none (query_on es path (found p [] (λ u. chain_of es k u)))) some ≡ some m
-          → ((u : ℕ) → u < n → query_on es path (chain_of es k u) ≡ some m → m < n) → m < n
-      go (some t) pw b p pp e f = let q : t ≡ m = cc in walk_node path s h (pw ∙ ap some q)
-      go none pw true p pp e f = never (cc)
-      go none pw false none pp e f = never (cc)
-      go none pw false (some u) pp e f = f u (fit_parent es n s u fit pp) e
+          → found w (pick b None (query_on es path (found p [] (λ u. chain_of es k u)))) Some ≡ Some m
+          → ((u : ℕ) → u < n → query_on es path (chain_of es k u) ≡ Some m → m < n) → m < n
+      go (Some t) pw b p pp e f = let q : t ≡ m = cc in walk_node path s h (pw ∙ ap Some q)
+      go None pw true p pp e f = never (cc)
+      go None pw false None pp e f = never (cc)
+      go None pw false (Some u) pp e f = f u (fit_parent es n s u fit pp) e
 
-pub query_node : (t : SymbolTable) (s : ℕ) (path : List ℕ) {m : ℕ} → is_node t s ≡ true → query_of (edges_of t) s path ≡ some m → m < t.nodes
+pub query_node : (t : SymbolTable) (s : ℕ) (path : List ℕ) {m : ℕ} → is_node t s ≡ true → query_of (edges_of t) s path ≡ Some m → m < t.nodes
 unfolding query_of chain
 query_node t s path h e = let a = node_is t s h in query_on_node (edges_of t) t.nodes a.0.fit 1024 s path a.1 e

@@ -1,8 +1,8 @@
 -- The definitions of export and ensure_index beside the paper's and the Rust's words. Assumes nothing.
+use Rattle.std.specs.Prelude.{None, Some}
 use mathlib.Core.Bool.{Bool, true, false, not, ◌&&◌, and-eq-true_iff}
 use mathlib.Core.Path.{◌≡◌, refl, sym, ap, ◌∙◌}
 use mathlib.Core.List.{List, [], ◌∷◌}
-use mathlib.Core.Option.{none, some}
 use Prim.Native.Nat.{ℕ, ◌+◌, ◌<◌, ◌≤◌}
 use native.Mathlib.Omega.{arith}
 use lib.Dec.{eqb, ltb}
@@ -43,12 +43,12 @@ has_same t u s r m h k l b there back = go (has m (chain (edges_of t) s)) (has m
     go false false p q = refl
 
 -- a name that means nothing is not taken
-none_taken : (es : List Edge) (s x n : ℕ) → ((c : ℕ) → child_of es s x ≡ some c → ⊥) → taken es s x n ≡ false
+none_taken : (es : List Edge) (s x n : ℕ) → ((c : ℕ) → child_of es s x ≡ Some c → ⊥) → taken es s x n ≡ false
 unfolding taken elsewhere child_of
 none_taken [] s x n h = refl
 none_taken (e ∷ es) s x n h = go (none_taken es s x n) (eqb e.from s && eqb e.id x) refl
   where
-    go : (((c : ℕ) → child_of es s x ≡ some c → ⊥) → taken es s x n ≡ false)
+    go : (((c : ℕ) → child_of es s x ≡ Some c → ⊥) → taken es s x n ≡ false)
         → (b : Bool) → (eqb e.from s && eqb e.id x) ≡ b → taken (e ∷ es) s x n ≡ false
     go ih true q = absurd (h e.to (rw q))
     go ih false q = rw q (ih (λ c k. h c (rw q k)))
@@ -192,27 +192,27 @@ module _ (t : SymbolTable) (s x : ℕ) (path : List ℕ) (ok : (is_node t s && i
   args = (and-eq-true_iff (is_node t s) (is_new_path (x ∷ path))).0 ok
 
   -- an id that is there: on from its node
-  pub ensure_there : (c : ℕ) → child_of (edges_of t) s x ≡ some c → ensure_index t s (x ∷ path) ≡ ensure_index t c path
+  pub ensure_there : (c : ℕ) → child_of (edges_of t) s x ≡ Some c → ensure_index t s (x ∷ path) ≡ ensure_index t c path
   unfolding deepest
   ensure_there c e =
       let h = (node_is t s args.0).0 in
       let next = rest_ok t c x path args.1 h (fit_child (edges_of t) t.nodes s x c h.fit e) in
       ensure_from t s (x ∷ path) (deepest (edges_of t) c path) ok (rw e) ∙ sym (ensure_from t c path _ next refl)
 
-  module _ (e : child_of (edges_of t) s x ≡ none) where
+  module _ (e : child_of (edges_of t) s x ≡ None) where
     from_here : ensure_index t s (x ∷ path) ≡ of_room t.nodes t.edges (length (x ∷ path)) (length (x ∷ path)) (grown t s (x ∷ path))
     from_here = ensure_from t s (x ∷ path) (s, x ∷ path) ok (all_to_make (edges_of t) s (x ∷ path) e)
 
     -- an id that is not there: it is inserted without a number, and on from the new node
-    pub ensure_new : {u : SymbolTable × ℕ} → insert t s x none ≡ Done u → length t.links ≡ 6144
+    pub ensure_new : {u : SymbolTable × ℕ} → insert t s x None ≡ Done u → length t.links ≡ 6144
         → ensure_index t s (x ∷ path) ≡ ensure_index u.0 u.1 path
     unfolding grown with_edge with_node
     ensure_new made size =
-        let a = insert_has t s x none made size in
-        let v : SymbolTable = inserted t s x none in
+        let a = insert_has t s x None made size in
+        let v : SymbolTable = inserted t s x None in
         let n : ℕ = t.nodes in
-        let next = rest_ok v n x path args.1 (inserted_sound t s x none a.0) (omega arith) in
-        let bare = all_missing (edges_of v) n path (inserted_childless t s x none a.0) in
+        let next = rest_ok v n x path args.1 (inserted_sound t s x None a.0) (omega arith) in
+        let bare = all_missing (edges_of v) n path (inserted_childless t s x None a.0) in
         let nodes : t.nodes + length (x ∷ path) ≡ v.nodes + length path = omega arith in
         let edges : t.edges + length (x ∷ path) ≡ v.edges + length path = omega arith in
         from_here
@@ -221,7 +221,7 @@ module _ (t : SymbolTable) (s x : ℕ) (path : List ℕ) (ok : (is_node t s && i
         ∙ ap (λ (u : SymbolTable × ℕ). ensure_index u.0 u.1 path) a.1
 
     -- where it cannot be inserted, that is the refusal of the whole
-    pub ensure_refused : {k : ℕ} → insert t s x none ≡ Refused k → ensure_index t s (x ∷ path) ≡ Refused k
+    pub ensure_refused : {k : ℕ} → insert t s x None ≡ Refused k → ensure_index t s (x ∷ path) ≡ Refused k
     unfolding insert
     ensure_refused refused =
         let name = lt-ltb 0 x (path_rest x path args.1).0 in

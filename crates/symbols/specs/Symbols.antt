@@ -1,8 +1,7 @@
 -- Document 01's "Symbols" as calls on a table: its refusals, and the table that each leaves. Assumes nothing: these are
 -- definitions.
-use Rattle.std.specs.Prelude.{Bool, true, false, ◌&&◌, ℕ, ◌+◌, ◌*◌, List, [], ◌∷◌, ℤ, pos, get_or, set, replicate}
-use Rattle.std.proofs.Math.Option.{Option, none, some}
-use Rattle.refusals.specs.Answer.{Answer, Done, Refused, pick}
+use Rattle.std.specs.Prelude.{Bool, ◌&&◌, ℕ, ◌+◌, ◌*◌, List, [], ◌∷◌, ℤ, pos, get_or, set, replicate, Option, None, Some}
+use Rattle.refusals.specs.Answer.{Answer, Done, Refused}
 use Rattle.refusals.specs.Memory.{over}
 use Rattle.edges.specs.declared.Edge.{Edge}
 use Rattle.edges.specs.Edges.{max_nodes, max_edges, is_path, child_of, parent_of, walk_of, deepest, width, edges_in}
@@ -23,8 +22,7 @@ new = record {
   nodes = 1;
   edges = 0;
   links = replicate (width * max_edges) 0;
-  known = replicate max_nodes false;
-  number = replicate max_nodes (pos 0);
+  numbers = replicate max_nodes None;
 }
 
 -- a table whose counts, edges and chains are so
@@ -39,20 +37,16 @@ is_node t s = is_node_in t.nodes t.edges (edges_of t) s
 
 -- ---- a node's number
 
--- the number of node s, if it has one: whether it does stands in one list, and which in the other
-unfoldable pub number_at : List Bool → List ℤ → ℕ → Option ℤ
-number_at known number s = pick (get_or known s false) (some (get_or number s (pos 0))) none
+-- the number of node s, if it has one
+abbrev pub number_at : List (Option ℤ) → ℕ → Option ℤ
+number_at numbers s = get_or numbers s None
+
+-- the number, else 0
+abbrev pub number_or0 : Option ℤ → ℤ
+number_or0 None = pos 0
+number_or0 (Some z) = z
 
 -- ---- a changed table
-
--- whether a number is there; and the number, else 0
-abbrev pub is_known : Option ℤ → Bool
-is_known none = false
-is_known (some z) = true
-
-abbrev pub number_or0 : Option ℤ → ℤ
-number_or0 none = pos 0
-number_or0 (some z) = z
 
 -- node n has this number, or none
 unfoldable pub with_data : SymbolTable → ℕ → Option ℤ → SymbolTable
@@ -60,8 +54,7 @@ with_data t n d = record {
   nodes = t.nodes;
   edges = t.edges;
   links = t.links;
-  known = set t.known n (is_known d);
-  number = set t.number n (number_or0 d);
+  numbers = set t.numbers n d;
 }
 
 -- one more edge, from s under the name x to n
@@ -70,8 +63,7 @@ with_edge t s x n = record {
   nodes = t.nodes;
   edges = t.edges + 1;
   links = over t.links (width * t.edges) (s ∷ x ∷ n ∷ []);
-  known = t.known;
-  number = t.number;
+  numbers = t.numbers;
 }
 
 -- one more node, with this number or none
@@ -80,8 +72,7 @@ with_node t d = record {
   nodes = t.nodes + 1;
   edges = t.edges;
   links = t.links;
-  known = set t.known t.nodes (is_known d);
-  number = set t.number t.nodes (number_or0 d);
+  numbers = set t.numbers t.nodes d;
 }
 
 -- a new node under s by the name x
@@ -91,7 +82,7 @@ inserted t s x d = with_edge (with_node t d) s x t.nodes
 -- new nodes, one below the other, by these names; and the deepest
 unfoldable pub grown : SymbolTable → ℕ → List ℕ → SymbolTable × ℕ
 grown t s [] = (t, s)
-grown t s (x ∷ xs) = grown (inserted t s x none) t.nodes xs
+grown t s (x ∷ xs) = grown (inserted t s x None) t.nodes xs
 
 -- ---- what a call leaves
 
@@ -109,7 +100,7 @@ left_node t (Refused n) = (t, Refused n)
 
 -- a node's number, if it has one
 unfoldable pub get : SymbolTable → ℕ → Answer (Option ℤ)
-get t s = of_range (is_node t s) (Done (number_at t.known t.number s))
+get t s = of_range (is_node t s) (Done (number_at t.numbers s))
 
 -- "insert": the table with the new node, and its number as a node
 unfoldable pub insert : SymbolTable → ℕ → ℕ → Option ℤ → Answer (SymbolTable × ℕ)

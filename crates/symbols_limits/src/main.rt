@@ -7,80 +7,54 @@ mod asks;
 mod show;
 mod tables;
 
-use descriptors::STDIN_FILENO;
+use cases::u16_of;
+use console::Console;
+use std::io;
 use symbols::SymbolTable;
-use tables::State;
+use tables::Path;
 
 // Room for the questions.
 const CASES: usize = 65536;
 
-// Reads the questions.
-fn main() {
-    let mut cases = [0u8; CASES];
-    let length = io::read_full(STDIN_FILENO, &mut cases);
-    run(&cases[..length]);
-}
-
-// Goes from line to line.
-fn run(cases: &[u8]) {
-    let count = script::lines(cases);
-    let mut state = tables::begun();
-    let mut i = 0;
-    while i < count {
-        state = obey(script::line(cases, i), state);
-        i += 1;
-    }
-}
-
 // Sets the path, changes the table, or asks.
-fn obey(line: &[u8], state: State) -> State {
-    if script::is_silent(line) {
-        return state;
+fn obey(rt: &impl Print, line: &[u8], table: &mut SymbolTable, path: &mut Path) -> io::Result<()> {
+    match script::command(line, b"path table counts edge chain crowd export insert") {
+        0 => tables::set_path(path, line),
+        1 => *table = tables::sized(SymbolTable::new(), line),
+        2 => *table = tables::sized(*table, line),
+        3 => tables::link(table, line),
+        4 => tables::chain(table, u16_of(line, 1), u16_of(line, 2)),
+        5 => tables::crowd(table, script::number(line, 1)),
+        6 => *table = asks::exported(rt, line, *table, path.as_slice())?,
+        7 => *table = asks::inserted(rt, line, *table)?,
+        _ => return ask(rt, line, *table, path.as_slice()),
     }
-    if script::is_command(line, b"path") {
-        return tables::with_path(line, state);
-    }
-    let ids = state.ids;
-    let table = state.table;
-    state.with_table(change(line, table, tables::first(&ids, state.count)))
-}
-
-// The table that a line makes, or leaves as it is.
-fn change(line: &[u8], table: SymbolTable, path: &[u16]) -> SymbolTable {
-    match script::command(line, b"table counts edge chain crowd export insert") {
-        0 => tables::sized(SymbolTable::new(), line),
-        1 => tables::sized(table, line),
-        2 => tables::linked(table, line),
-        3 => tables::chained(table, id(line, 1), id(line, 2)),
-        4 => tables::crowded(table, script::number(line, 1)),
-        5 => asks::exported(line, table, path),
-        6 => asks::inserted(line, table),
-        _ => {
-            ask(line, table, path);
-            table
-        }
-    }
+    Ok(())
 }
 
 // Asks the table, or prints a text.
-fn ask(line: &[u8], table: SymbolTable, path: &[u16]) {
+fn ask(rt: &impl Print, line: &[u8], table: SymbolTable, path: &[u16]) -> io::Result<()> {
     match script::command(line, b"calls paths list room child try reads lent say") {
-        0 => asks::calls(line, table),
-        1 => asks::path_calls(line, table, path),
-        2 => asks::list_of(line, table, path),
-        3 => asks::room(line, table),
-        4 => asks::child(line, table),
+        0 => asks::calls(rt, line, table),
+        1 => asks::path_calls(rt, line, table, path),
+        2 => asks::list_of(rt, line, table, path),
+        3 => asks::room(rt, line, table),
+        4 => asks::child(rt, line, table),
         5 => {
-            asks::tried(line, table, path);
+            asks::tried(rt, line, table, path)?;
+            Ok(())
         }
-        6 => asks::reads(table, id(line, 1), path),
-        7 => asks::lent(line, table, path),
-        8 => show::print_word(script::words_from(line, 1)),
-        _ => show::tell(line),
+        6 => asks::reads(rt, table, u16_of(line, 1), path),
+        7 => asks::lent(rt, line, table, path),
+        8 => cases::print_line(rt, script::words_from(line, 1)),
+        _ => cases::tell(rt, line),
     }
 }
 
-// A node or a name.
-fn id(line: &[u8], index: usize) -> u16 {
-    (script::number(line, index) % 65536) as u16
+fn main() {
+    let mut table = SymbolTable::new();
+    let mut path = Path::new(0);
+    let _ = cases::obey_each(&Console, &mut [0u8; CASES], |rt, line| {
+        obey(rt, line, &mut table, &mut path)
+    });
 }

@@ -28,14 +28,10 @@ module _ (k n : ℕ) (is : n ≡ size_of k) where
   unfolding is_statement
   no_statement z = simp (eq-eqb _ 0 (sym is ∙ z))
 
-  -- a kind is of one sort or the other
+  -- what is one, and low enough, is of the first sort
   pub an_expression : (n ≡ 0 → ⊥) → ltb k instruction ≡ is_expression k
   unfolding is_expression
   an_expression z = simp (ne_eqb _ 0 (λ e. z (is ∙ e)))
-
-  pub a_statement : (n ≡ 0 → ⊥) → leb instruction k ≡ is_statement k
-  unfolding is_statement
-  a_statement z = simp (ne_eqb _ 0 (λ e. z (is ∙ e)))
 
 -- a kind of which expressions are made is one, and is below the others
 module _ (k : ℕ) (is : is_expression k ≡ true) where

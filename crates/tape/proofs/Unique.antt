@@ -1,27 +1,16 @@
 -- Each public call allows one answer: the law of `refusals`, applied to each call's own contract. Of a record it speaks of the
 -- bytes. Assumes nothing.
 use mathlib.Core.List.{List}
-use mathlib.Core.Path.{◌≡◌, refl}
 use Prim.Native.Nat.{ℕ}
-use Rattle.refusals.specs.AnswerAt.{AnswerAt, Fine, Fault}
+use Rattle.refusals.specs.Says.{says_at}
 use Rattle.refusals.proofs.Unique.{One, OneResult, same, told_apart}
-use Rattle.tape.specs.Says.{says_found}
-use Rattle.tape.specs.declared.Found.{Found}
-use Rattle.tape.specs.declared.Found.TheVariants as found
+use Rattle.refusals.proofs.One.{back_at, back_says_at}
 use Rattle.tape.proofs.size.Reads as size
 use Rattle.tape.proofs.is_expression.Reads as is-expression
 use Rattle.tape.proofs.is_statement.Reads as is-statement
 use Rattle.tape.proofs.is_name.Reads as is_name
 use Rattle.tape.proofs.find.Reads as find
 use Rattle.tape.proofs.record.Reads as record-reads
-
-abbrev back_found : AnswerAt ℕ → Found
-back_found (Fine n) = found.Whole n
-back_found (Fault n at) = found.Refused n at
-
-back_found_lem : (x : Found) → back_found (says_found x) ≡ x
-back_found_lem (found.Whole n) = refl
-back_found_lem (found.Refused n at) = refl
 
 pub size_one : OneResult size.Post
 size_one k a x y e f p q = same p q
@@ -36,7 +25,7 @@ pub is_name_one : OneResult is_name.Post
 is_name_one k a x y e f p q = same p q
 
 pub find_one : OneResult find.Post
-find_one k a x y e f p q = told_apart says_found back_found back_found_lem p q
+find_one k a x y e f p q = told_apart says_at back_at back_says_at p q
 
 pub record_one : One {S = λ k. List ℕ} (λ k x e. x.now) record-reads.Post
 record_one k a x y e f p q = same p q

@@ -3,4 +3,3 @@ pub mod Kinds
 pub mod Packed
 pub mod Record
 pub mod Walk
-pub mod Says

@@ -3,12 +3,12 @@
 
 ghost use Rattle.std.specs.Prelude.{◌≡◌, length};
 ghost use Rattle.refusals.specs.AnswerAt.{mapped};
+ghost use Rattle.refusals.specs.Says.{says_at};
 ghost use Rattle.tape.specs.Kinds.{size_of, is_expression, is_statement, is_name};
 ghost use Rattle.tape.specs.Packed.{sizes_of};
 ghost use Rattle.tape.specs.Record.{record_at, bytes_at};
-ghost use Rattle.tape.specs.Says.{says_found};
 
-use refusals::{BAD_RECORD, CUT_SHORT};
+use refusals::{Fault, Refusal};
 
 // The kinds of which expressions are made.
 pub const NUMBER: u8 = 0x01;
@@ -47,13 +47,6 @@ pub const WORD: u8 = 0x48;
 pub const SCREEN_BYTE: u8 = 0x49;
 
 pub const END: u8 = 0x4f;
-
-// The length of the record at an offset, or what is wrong there.
-#[derive(Clone, Copy)]
-pub enum Found {
-    Whole(usize),
-    Refused { number: u8, at: usize },
-}
 
 // Kinds stand in rows of sixteen. The sizes of a row are packed in one word, a digit of four bits for each kind, the first lowest.
 const ROW: u8 = 16;
@@ -108,60 +101,45 @@ pub fn size(kind: u8) -> usize
 }
 
 // Whether expressions are made of records of this kind.
+#[tactic(auto, unfolding(crate::specs::Kinds::is_expression))]
 pub fn is_expression(kind: u8) -> bool
     ensures { result ≡ is_expression kind }
 {
-    if size(kind) == 0 {
-        return false;
-    }
-    kind < INSTRUCTION
+    size(kind) != 0 && kind < INSTRUCTION
 }
 
 // Whether records of this kind stand outside of expressions.
+#[tactic(auto, unfolding(crate::specs::Kinds::is_statement))]
 pub fn is_statement(kind: u8) -> bool
     ensures { result ≡ is_statement kind }
 {
-    if size(kind) == 0 {
-        return false;
-    }
-    INSTRUCTION <= kind
+    size(kind) != 0 && INSTRUCTION <= kind
 }
 
 // Whether it is the kind of a name.
+#[tactic(auto, unfolding(crate::specs::Kinds::is_name))]
 pub fn is_name(kind: u8) -> bool
     ensures { result ≡ is_name kind }
 {
-    if kind < NAME_1 {
-        return false;
-    }
-    kind <= NAME_4
+    NAME_1 <= kind && kind <= NAME_4
 }
 
 // How long the record at an offset is.
-pub fn find(tape: &[u8], at: usize) -> Found
-    ensures { says_found result ≡ mapped length (record_at tape.now at) }
+pub fn find(tape: &[u8], at: usize) -> Result<usize, Fault>
+    ensures { says_at result ≡ mapped length (record_at tape.now at) }
 {
     let len = tape.len();
     if len <= at {
-        return Found::Refused {
-            number: CUT_SHORT,
-            at: len,
-        };
+        return Err(Refusal::CutShort.at(len));
     }
     let n = size(tape[at]);
     if n == 0 {
-        return Found::Refused {
-            number: BAD_RECORD,
-            at,
-        };
+        return Err(Refusal::BadRecord.at(at));
     }
     if len - at < n {
-        return Found::Refused {
-            number: CUT_SHORT,
-            at,
-        };
+        return Err(Refusal::CutShort.at(at));
     }
-    Found::Whole(n)
+    Ok(n)
 }
 
 // The bytes of the record at an offset, as that part of the tape; none where no whole record stands there.
@@ -169,7 +147,7 @@ pub fn record(tape: &[u8], at: usize) -> &[u8]
     ensures { result.now ≡ bytes_at tape.now at }
 {
     match find(tape, at) {
-        Found::Whole(n) => &tape[at..at + n],
-        Found::Refused { .. } => &tape[..0],
+        Ok(n) => &tape[at..at + n],
+        Err(_) => &tape[..0],
     }
 }

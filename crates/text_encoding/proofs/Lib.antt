@@ -1,3 +1,2 @@
--- The law of the ranges, and that the call allows one answer.
-pub mod Laws
+-- That the call allows one answer.
 pub mod Unique

@@ -6,6 +6,7 @@ ghost use Rattle.std.specs.Prelude.{◌≡◌};
 ghost use Rattle.text_encoding.specs.Petscreen.{petscreen_of};
 
 // The screen byte of a Petscii byte.
+#[tactic(auto, unfolding(crate::specs::Petscreen::petscreen_of))]
 pub fn petscreen(c: u8) -> u8
     ensures { result ≡ petscreen_of c }
 {

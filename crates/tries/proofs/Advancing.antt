@@ -1,7 +1,7 @@
 -- One record of the walk: what the code hands to the try, and what it makes of its answer. Assumes nothing.
+use Rattle.std.specs.Prelude.{Option}
 use mathlib.Core.Bool.{Bool, true, false}
 use mathlib.Core.List.{List, [], ◌∷◌}
-use mathlib.Core.Option.{Option}
 use mathlib.Core.Path.{◌≡◌, refl, sym, ap, ◌∙◌}
 use Prim.Native.Nat.{ℕ, suc, ◌+◌, ◌≤◌}
 use native.Mathlib.Omega.{arith}
@@ -59,6 +59,11 @@ pub record Handed (tape nodes : List ℕ) (numbers : ℕ → Option ℤ) (w : Wa
   pub own_is : own ≡ numbers (suc w.names)
   pub place_is : place ≡ here w
   pub v_is : v ≡ value_of tape nodes numbers place r (at + length r)
+
+pub handed : {tape nodes : List ℕ} {numbers : ℕ → Option ℤ} {w : Walk} {at : ℕ} {r : List ℕ} {own : Option ℤ} {place : ℤ} {v : Value}
+    → {t : Bool} → t ≡ is_inner r → t ≡ false → own ≡ numbers (suc w.names) → place ≡ here w
+    → v ≡ value_of tape nodes numbers place r (at + length r) → Handed tape nodes numbers w at r own place v
+handed is e o p v = record { outer = sym is ∙ e; own_is = o; place_is = p; v_is = v }
 
 module _ {tape nodes : List ℕ} {numbers : ℕ → Option ℤ} {w : Walk} {at : ℕ} {r : List ℕ} {own : Option ℤ} {place : ℤ} {v : Value}
     (handed : Handed tape nodes numbers w at r own place v) (c : Compares) where

@@ -1,7 +1,7 @@
 -- Two readings that agree at the expression of every statement come to the same tries; and with arguments in their ranges the call is
 -- those tries. Assumes nothing.
+use Rattle.std.specs.Prelude.{Option}
 use mathlib.Core.List.{List, [], ◌∷◌}
-use mathlib.Core.Option.{Option}
 use mathlib.Core.Path.{◌≡◌, refl, ap, ◌∙◌}
 use Prim.Native.Nat.{ℕ, ◌≤◌}
 use lib.IntN.{ℤ}
@@ -12,7 +12,6 @@ use Rattle.pen.specs.Pens.{size}
 use Rattle.form.specs.Form.{max_tape}
 use Rattle.form.specs.Statements.{Statement}
 use Rattle.evaluator.specs.Expression.{Value}
-use Rattle.walk.specs.declared.Numbers.{Numbers}
 use Rattle.walk.specs.Walk.{here}
 use Rattle.walk.proofs.Agrees.{Alike}
 use Rattle.compares.specs.declared.Compares.{Compares}
@@ -42,11 +41,11 @@ module _ (r s : Reads) (c : Compares) (numbers : ℕ → Option ℤ) where
 -- ---- the call
 
 -- the same is compared: the same is written
-pub write_by : (tape nodes : List ℕ) (numbers : Numbers) (initial room : ℕ) {c d : Compares} → c ≡ d
+pub write_by : (tape nodes : List ℕ) (numbers : List (Option ℤ)) (initial room : ℕ) {c d : Compares} → c ≡ d
     → write_of tape nodes numbers initial c room ≡ write_of tape nodes numbers initial d room
 write_by tape nodes numbers initial room is = ap (λ (c : Compares). write_of tape nodes numbers initial c room) is
 
-module _ (tape nodes : List ℕ) (numbers : Numbers) (initial : ℕ) (c : Compares) where
+module _ (tape nodes : List ℕ) (numbers : List (Option ℤ)) (initial : ℕ) (c : Compares) where
   pub write_allowed : length tape ≤ max_tape → initial ≤ size → {n : ℕ} → n ≡ size
       → write_of tape nodes numbers initial c n ≡ tried_all tape nodes numbers initial c
   unfolding write_of is_allowed

@@ -1,9 +1,5 @@
 -- Laws of a try, of what it writes and how long that is, of the walk over a tape, of the range and the image outside it; that readings
 -- which agree try alike; and that the call allows one answer.
-pub mod Parts
-pub mod Attempts
-pub mod Drawing
-pub mod Copying
 pub mod Lengths
 pub mod Passed
 pub mod Advancing

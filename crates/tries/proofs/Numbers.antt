@@ -1,8 +1,8 @@
 -- The numbers with which the tries of an accepted tape are refused: what holds of each of them holds of the number that is answered.
 -- Assumes nothing.
-use mathlib.Core.Bool.{Bool, true, false, not, ◌||◌}
+use Rattle.std.specs.Prelude.{Option, None, Some}
+use mathlib.Core.Bool.{Bool, true, false, not}
 use mathlib.Core.List.{List, [], ◌∷◌, ◌++◌}
-use mathlib.Core.Option.{Option, some}
 use mathlib.Core.Path.{◌≡◌, refl, sym, subst, ◌∙◌}
 use Prim.Native.Nat.{ℕ, zero, suc, ◌+◌, ◌≤◌, ◌<◌}
 use native.Mathlib.Omega.{arith}
@@ -14,7 +14,9 @@ use Rattle.refusals.specs.Answer as A
 use Rattle.refusals.specs.Answer.{Answer, Done, Refused, pick}
 use Rattle.refusals.specs.AnswerAt as At
 use Rattle.refusals.specs.AnswerAt.{AnswerAt, Fine, Fault, and_then}
+use Rattle.refusals.specs.Says.{number_of}
 use Rattle.refusals.specs.Table.{argument, bad_record, no_row, arithmetic, unresolved, too_small, too_far, outside}
+use Rattle.refusals.specs.declared.Refusal.{Refusal}
 use Rattle.int64.specs.Num.{mod_z}
 use Rattle.opcodes.specs.declared.Form.{Form}
 use Rattle.opcodes.specs.Manual.{forms_of, is_branch}
@@ -127,7 +129,7 @@ module _ (P : ℕ → Type 0) (far : P too_far) (small : P too_small) (room : P 
 
   instruction_number : (m o s : ℕ) (place z : ℤ) → instruction_fault m o s ≡ 0 → RefusedBy P (instruction_of m o s place z)
   unfolding instruction_of
-  instruction_number m o s place z e = go (is_branch m o s) (distance_of place z) (distance_number place z)
+  instruction_number m o s place z e = go (is_branch m o s) _ (distance_number _ z)
     where
       go : (t : Bool) (d : Answer ℕ) → RefusedBy P d
           → RefusedBy P (pick t (A.and_then d (λ b. encode_of m o s (pos b))) (encode_of m o s z))
@@ -175,8 +177,12 @@ module _ (P : ℕ → Type 0) (far : P too_far) (small : P too_small) (room : P 
 
   -- ---- a statement
 
-  module _ (sum : P arithmetic) (no_number : P unresolved) (c : Compares) (label : (c.label ≡ 0 → ⊥) → P c.label)
-      (constant : (c.constant ≡ 0 → ⊥) → P c.constant) where
+  -- the refusal of what is compared, if it is
+  abbrev pub Differs : Option Refusal → Type 0
+  Differs None = Unit {0}
+  Differs (Some why) = P (number_of why)
+
+  module _ (sum : P arithmetic) (no_number : P unresolved) (c : Compares) (label : Differs c.label) (constant : Differs c.constant) where
     -- what its expression comes to
     abbrev ValueBy : Value → Type 0
     ValueBy (Number z) = Unit {0}
@@ -193,13 +199,13 @@ module _ (P : ℕ → Type 0) (far : P too_far) (small : P too_small) (room : P 
     given_number at (Unresolved i) f h on = no_number
     given_number at (Refuses n i) f h on = h
 
-    compared_number : (n : ℕ) → ((n ≡ 0 → ⊥) → P n) → (own : Option ℤ) (z : ℤ) (at : ℕ) → FaultBy P (compared n own z at)
-    compared_number n h own z at = go (eqb n 0) refl (eq_value own (some z))
+    compared_number : (r : Option Refusal) → Differs r → (own : Option ℤ) (z : ℤ) (at : ℕ) → FaultBy P (compared r own z at)
+    compared_number None h own z at = tt
+    compared_number (Some why) h own z at = go (eq_value own (Some z))
       where
-        go : (t : Bool) → eqb n 0 ≡ t → (s : Bool) → FaultBy P {A = List ℕ} (pick (t || s) (Fine []) (Fault n at))
-        go true e s = tt
-        go false e true = tt
-        go false e false = h (eqb-false n 0 e)
+        go : (t : Bool) → FaultBy P {A = List ℕ} (pick t (Fine []) (Fault (number_of why) at))
+        go true = tt
+        go false = h
 
     place_number : (z : ℤ) (at : ℕ) → FaultBy P {A = List ℕ} (pick (is_place z) (Fine []) (Fault outside at))
     place_number z at = go (is_place z)

@@ -1,7 +1,7 @@
 -- The walk over a tape: the place stays in the image, what each turn keeps, and the answer at each way out. Assumes nothing.
+use Rattle.std.specs.Prelude.{Option}
 use mathlib.Core.Bool.{Bool, true, false}
 use mathlib.Core.List.{List, [], ◌∷◌}
-use mathlib.Core.Option.{Option}
 use mathlib.Core.Path.{◌≡◌, refl, sym, ap, subst, ◌∙◌}
 use Prim.Native.Nat.{ℕ, suc, ◌+◌, ◌≤◌, ◌<◌}
 use native.Mathlib.Omega.{arith}
@@ -11,8 +11,6 @@ use Rattle.refusals.specs.Answer as A
 use Rattle.refusals.specs.Answer.{Answer, Done, Refused, pick}
 use Rattle.refusals.specs.AnswerAt as At
 use Rattle.refusals.specs.AnswerAt.{AnswerAt, Fine, Fault, and_then}
-use Rattle.refusals.specs.declared.OutcomeAt.{OutcomeAt}
-use Rattle.refusals.specs.declared.OutcomeAt.TheVariants as outcome_at
 use Rattle.refusals.proofs.Never.{never}
 use Rattle.pen.specs.declared.Pen.{Pen}
 use Rattle.pen.specs.Pens.{size, begun}
@@ -31,10 +29,9 @@ use Rattle.walk.specs.Values.{number_of, value_at}
 use Rattle.walk.specs.Numbers.{reads_noted}
 use Rattle.walk.proofs.Records.{names_said, moved_most}
 use Rattle.compares.specs.declared.Compares.{Compares}
-use Rattle.tries.specs.declared.Stepped.{Stepped}
 use Rattle.tries.specs.Tries.{Page, page, drawn, Trying, trying, start, try_at, tried, tries}
 use Rattle.tries.specs.Write.{range_of, image_or}
-use Rattle.tries.specs.Steps.{says_stepped, stepped_by, tried_over}
+use Rattle.tries.specs.Steps.{tried_over}
 use Rattle.tries.proofs.Lengths.{try_length}
 use Rattle.tries.proofs.Passed.{tried_has}
 
@@ -166,31 +163,30 @@ module _ (tape nodes : List ℕ) (numbers : ℕ → Option ℤ) (c : Compares) (
         pub some_bytes : 0 < length r
         some_bytes = not_empty r (sym l-is ∙ f)
 
-        -- s: what the code makes of it
-        module _ (s : Stepped) (next : List ℕ)
-            (told : says_stepped s next ≡ tried_over (reads_noted tape nodes) c numbers (trying w (page pen image)) at r) where
-          on : all ≡ and_then (says_stepped s next) (λ u. from u (at + length r))
-          on =
-              let t = trying w (page pen image) in
-              g.same ∙ over_one (reads_noted tape nodes) c numbers tape at t (sym (l-is ∙ ap is_last is) ∙ f)
-              ∙ ap (λ (x : List ℕ). and_then (tried_over (reads_noted tape nodes) c numbers t at x) (λ u. from u (at + length x))) (sym is)
-              ∙ ap (λ (a : AnswerAt Trying). and_then a (λ u. from u (at + length r))) (sym told)
+        -- what is made of it
+        abbrev over : AnswerAt Trying
+        over = tried_over (reads_noted tape nodes) c numbers (trying w (page pen image)) at r
 
-          pub going_refused : (n i : ℕ) → s.answer ≡ outcome_at.Refused n i → {a : AnswerAt (ℕ × ℕ)} → a ≡ Fault n i → Answers a next
-          going_refused n i e h =
-              let fault : all ≡ Fault n i =
-              on ∙ ap (λ (o : OutcomeAt). and_then (stepped_by o (trying s.walk (page s.pen next))) (λ u. from u (at + length r))) e in
-              (h ∙ sym (ap (At.mapped range_of) fault), sym (ap (image_or next) fault))
+        on : {a : AnswerAt Trying} → a ≡ over → all ≡ and_then a (λ u. from u (at + length r))
+        on told =
+            let t = trying w (page pen image) in
+            g.same ∙ over_one (reads_noted tape nodes) c numbers tape at t (sym (l-is ∙ ap is_last is) ∙ f)
+            ∙ ap (λ (x : List ℕ). and_then (tried_over (reads_noted tape nodes) c numbers t at x) (λ u. from u (at + length x))) (sym is)
+            ∙ ap (λ (a : AnswerAt Trying). and_then a (λ u. from u (at + length r))) (sym told)
 
-          pub going_on : s.answer ≡ outcome_at.Done → length next ≡ length image → Going image₀ next s.pen s.walk (at + length r)
-          going_on e same_length =
-              let u = trying s.walk (page s.pen next) in
-              let passed = sym told ∙ ap (λ (o : OutcomeAt). stepped_by o u) e in
-              let low = over_low (reads_noted tape nodes) c numbers (trying w (page pen image)) at r u g.low passed in
-              record {
-                near = inside;
-                low = low.0;
-                few = omega (arith, low.1, g.few, some_bytes);
-                as_long = same_length ∙ g.as_long;
-                same = on ∙ ap (λ (o : OutcomeAt). and_then (stepped_by o u) (λ u. from u (at + length r))) e;
-              }
+        -- next: the image that is left
+        pub going_refused : (next : List ℕ) {n i : ℕ} → Fault n i ≡ over → Answers (Fault n i) next
+        going_refused next told = let fault = on told in (sym (ap (At.mapped range_of) fault), sym (ap (image_or next) fault))
+
+        pub going_on : (next : List ℕ) {p : Pen} {v : Walk} → Fine (trying v (page p next)) ≡ over → length next ≡ length image
+            → Going image₀ next p v (at + length r)
+        going_on next {p} {v} told same_length =
+            let u = trying v (page p next) in
+            let low = over_low (reads_noted tape nodes) c numbers (trying w (page pen image)) at r u g.low (sym told) in
+            record {
+              near = inside;
+              low = low.0;
+              few = omega (arith, low.1, g.few, some_bytes);
+              as_long = same_length ∙ g.as_long;
+              same = on told;
+            }

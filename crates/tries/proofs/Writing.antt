@@ -1,8 +1,10 @@
 -- The public call: its arguments, and what it leaves in the lent image. Assumes nothing.
+use Rattle.std.specs.Prelude.{Option}
 use mathlib.Core.Bool.{true, false}
 use mathlib.Core.List.{List}
 use mathlib.Core.Path.{◌≡◌, refl, sym, ap, ◌∙◌}
 use Prim.Native.Nat.{ℕ, ◌≤◌, ◌<◌}
+use lib.IntN.{ℤ}
 use lib.ListN.{length}
 use borrow.Author.Tests.{eq-eqb, ne_eqb, le-leb, lt-leb}
 use Rattle.refusals.specs.AnswerAt as At
@@ -11,13 +13,10 @@ use Rattle.refusals.specs.Table.{argument}
 use Rattle.refusals.proofs.Never.{never}
 use Rattle.refusals.proofs.Pick.{at_true, at_false}
 use Rattle.form.specs.Form.{max_tape}
-use Rattle.walk.specs.declared.Numbers.{Numbers}
 use Rattle.walk.specs.Numbers.{numbers_in}
 use Rattle.compares.specs.declared.Compares.{Compares}
-use Rattle.tries.specs.declared.Written as W
-use Rattle.tries.specs.declared.Written.TheVariants as written
 use Rattle.tries.specs.Tries.{Trying}
-use Rattle.tries.specs.Write.{is_allowed, tried_all, write_of, range_of, says_written, image_or}
+use Rattle.tries.specs.Write.{is_allowed, tried_all, write_of, range_of, image_or}
 use Rattle.tries.proofs.Walking.{all}
 
 fault_range : (y : AnswerAt Trying) (m i : ℕ) → Fault m i ≡ At.mapped range_of y → y ≡ Fault m i
@@ -29,9 +28,9 @@ fine_image : (y : AnswerAt Trying) {x : ℕ × ℕ} (a b : List ℕ) → Fine x 
 fine_image (Fine t) a b e = refl
 fine_image (Fault n i) a b e = never (cc)
 
-module _ (tape nodes : List ℕ) (n : Numbers) (initial : ℕ) (c : Compares) (image : List ℕ) where
+module _ (tape nodes : List ℕ) (numbers : List (Option ℤ)) (initial : ℕ) (c : Compares) (image : List ℕ) where
   abbrev result : AnswerAt Trying
-  result = write_of tape nodes n initial c (length image)
+  result = write_of tape nodes numbers initial c (length image)
 
   -- what the call answers, and the image at exit
   abbrev Wrote : AnswerAt (ℕ × ℕ) → List ℕ → Type 0
@@ -64,7 +63,7 @@ module _ (tape nodes : List ℕ) (n : Numbers) (initial : ℕ) (c : Compares) (i
 
       module _ (whole : length image ≡ 65536) where
         abbrev tries_all : AnswerAt Trying
-        tries_all = all tape nodes (numbers_in n.known n.number) c initial
+        tries_all = all tape nodes (numbers_in numbers) c initial
 
         allowed : is_allowed tape initial (length image) ≡ true
         unfolding is_allowed
@@ -74,13 +73,11 @@ module _ (tape nodes : List ℕ) (n : Numbers) (initial : ℕ) (c : Compares) (i
         unfolding write_of tried_all
         tried = at_true _ _ allowed
 
-        -- d: what the code draws
-        module _ (d : W.Written) (told : says_written d ≡ At.mapped range_of tries_all) where
-          pub write_refused : (m i : ℕ) → d ≡ written.Refused m i → {a : AnswerAt (ℕ × ℕ)} → a ≡ Fault m i → Wrote a image
-          write_refused m i e h = faulted m i (sym tried ∙ fault_range tries_all m i (sym (ap says_written e) ∙ told)) h
+        pub write_refused : {m i : ℕ} → Fault m i ≡ At.mapped range_of tries_all → Wrote (Fault m i) image
+        write_refused {m} {i} e = faulted m i (sym tried ∙ fault_range tries_all m i e) refl
 
-          pub write_range : (s e : ℕ) → d ≡ written.Range s e → (scratch : List ℕ) → scratch ≡ image_or scratch tries_all
-              → {exit : List ℕ} → exit ≡ scratch → Wrote (Fine (s, e)) exit
-          write_range s e q scratch h p =
-              let fine = sym (ap says_written q) ∙ told in
-              (fine ∙ ap (At.mapped range_of) tried, p ∙ h ∙ fine_image tries_all scratch image fine ∙ ap (image_or image) tried)
+        -- scratch: what is drawn
+        pub write_range : {x : ℕ × ℕ} → Fine x ≡ At.mapped range_of tries_all → (scratch : List ℕ) → scratch ≡ image_or scratch tries_all
+            → {exit : List ℕ} → exit ≡ scratch → Wrote (Fine x) exit
+        write_range fine scratch h p =
+            (fine ∙ ap (At.mapped range_of) tried, p ∙ h ∙ fine_image tries_all scratch image fine ∙ ap (image_or image) tried)

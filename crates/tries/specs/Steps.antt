@@ -1,15 +1,14 @@
 -- What private functions promise each other on the way, record by record. No public promise cites these. Assumes nothing: these are
 -- definitions.
-use Rattle.std.specs.Prelude.{ℕ, ◌+◌, List, [], ◌∷◌, eqb, ℤ, take}
-use Rattle.std.proofs.Math.Option.{Option}
-use Rattle.refusals.specs.Answer.{Answer, Done, Refused, pick}
-use Rattle.refusals.specs.AnswerAt.{AnswerAt, Fine, Fault}
-use Rattle.refusals.specs.declared.Outcome as O
-use Rattle.refusals.specs.declared.Outcome.TheVariants as outcome
-use Rattle.refusals.specs.declared.OutcomeAt as OA
-use Rattle.refusals.specs.declared.OutcomeAt.TheVariants as outcome_at
+use Rattle.std.specs.Prelude.{ℕ, ◌+◌, List, [], ◌∷◌, eqb, ℤ, take, Option, Result}
+use Rattle.refusals.specs.Answer.{Answer, pick, mapped}
+use Rattle.refusals.specs.AnswerAt as At
+use Rattle.refusals.specs.AnswerAt.{AnswerAt, Fine}
+use Rattle.refusals.specs.Says.{says, says_at}
+use Rattle.refusals.specs.declared.Refusal.{Refusal}
+use Rattle.refusals.specs.declared.Fault.{Fault}
 use Rattle.opcodes.specs.declared.Code.{Code}
-use Rattle.segment.specs.declared.Drawn.{Drawn}
+use Rattle.pen.specs.declared.Pen.{Pen}
 use Rattle.tape.specs.Kinds.{set_place}
 use Rattle.form.specs.Form.{declares}
 use Rattle.form.specs.Statements.{is_inner, statement_of}
@@ -30,12 +29,8 @@ bytes_in c = take c.len (c.b0 ∷ c.b1 ∷ c.b2 ∷ [])
 -- ---- what is written
 
 -- a pen that a call gives, over the image that it leaves; or its refusal
-abbrev pub drawn_by : O.Outcome → Page → Answer Page
-drawn_by outcome.Done p = Done p
-drawn_by (outcome.Refused n) p = Refused n
-
-abbrev pub says_drawn : Drawn → List ℕ → Answer Page
-says_drawn d image = drawn_by d.answer (page d.pen image)
+abbrev pub says_drawn : Result Pen Refusal → List ℕ → Answer Page
+says_drawn drawn image = mapped (λ pen. page pen image) (says drawn)
 
 -- ---- behind a record
 
@@ -46,13 +41,9 @@ place_behind k v place n = pick (eqb k set_place) (moved_to (number_of v) place)
 unfoldable pub walk_behind : Walk → ℕ → Value → ℕ → Walk
 walk_behind w k v n = walk (place_behind k v w.place n) (pick (declares k) (w.names + 1) w.names)
 
-abbrev pub stepped_by : OA.OutcomeAt → Trying → AnswerAt Trying
-stepped_by outcome_at.Done t = Fine t
-stepped_by (outcome_at.Refused n at) t = Fault n at
-
--- what a step says, and the image that it leaves
-abbrev pub says_stepped : Stepped → List ℕ → AnswerAt Trying
-says_stepped s image = stepped_by s.answer (trying s.walk (page s.pen image))
+-- what a step gives, over the image that it leaves; or its refusal
+abbrev pub says_stepped : Result Stepped Fault → List ℕ → AnswerAt Trying
+says_stepped stepped image = At.mapped (λ s. trying s.walk (page s.pen image)) (says_at stepped)
 
 -- a record: those of expressions are passed over
 unfoldable pub tried_over : ((ℕ → Option ℤ) → ℤ → ℕ → Value) → Compares → (ℕ → Option ℤ) → Trying → ℕ → List ℕ → AnswerAt Trying

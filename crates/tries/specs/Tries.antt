@@ -1,6 +1,5 @@
 -- The last walk: each statement is tried, and what it writes is drawn by the segment's pen. Assumes nothing: these are definitions.
-use Rattle.std.specs.Prelude.{ℕ, suc, List, [], ◌∷◌, ℤ, replicate}
-use Rattle.std.proofs.Math.Option.{Option}
+use Rattle.std.specs.Prelude.{ℕ, suc, List, [], ◌∷◌, ℤ, replicate, Option}
 use Rattle.refusals.specs.Answer as A
 use Rattle.refusals.specs.Answer.{Answer, Done}
 use Rattle.refusals.specs.AnswerAt.{AnswerAt, Fine, mapped, and_then}

@@ -1,10 +1,11 @@
 -- A statement, tried: the bytes that it writes, or its refusal. Document 01: "Then each record is tried in tape order: 10, 11, 13,
 -- 15 for set place, 12 or 14, 15 for room." Assumes nothing: these are definitions.
-use Rattle.std.specs.Prelude.{ℕ, ◌||◌, List, [], ◌∷◌, eqb, ℤ, pos}
-use Rattle.std.proofs.Math.Option.{Option, some}
+use Rattle.std.specs.Prelude.{ℕ, List, [], ◌∷◌, eqb, ℤ, pos, Option, None, Some}
 use Rattle.refusals.specs.Answer.{Answer, pick, and_then}
 use Rattle.refusals.specs.AnswerAt.{AnswerAt, Fine, Fault}
+use Rattle.refusals.specs.Says.{number_of}
 use Rattle.refusals.specs.Table.{unresolved, outside}
+use Rattle.refusals.specs.declared.Refusal.{Refusal}
 use Rattle.int64.specs.Num.{mod_z}
 use Rattle.opcodes.specs.Manual.{is_branch}
 use Rattle.opcodes.specs.Encode.{low_first, encode_of}
@@ -26,9 +27,10 @@ given at (Refuses n i) f = Fault n at
 
 -- ---- what is compared
 
--- a number with the one in the list, by the refusal that a difference gives; 0: it is not compared
-abbrev pub compared : (number : ℕ) → Option ℤ → ℤ → ℕ → AnswerAt (List ℕ)
-compared number own z at = pick (eqb number 0 || eq_value own (some z)) (Fine []) (Fault number at)
+-- a number with the one in the list, by the refusal that a difference gives; without one it is not compared
+abbrev pub compared : Option Refusal → Option ℤ → ℤ → ℕ → AnswerAt (List ℕ)
+compared None own z at = Fine []
+compared (Some why) own z at = pick (eq_value own (Some z)) (Fine []) (Fault (number_of why) at)
 
 -- ---- the bytes
 

@@ -5,12 +5,11 @@
 ghost use Rattle.std.specs.Prelude.{true, false, [], ◌∷◌, ◌≡◌, ◌+◌, ◌≤◌, ◌<◌, suc, length, get_or, replicate};
 ghost use Rattle.refusals.specs.Answer.{pick, mapped};
 ghost use Rattle.refusals.specs.AnswerAt as At;
-ghost use Rattle.refusals.specs.AnswerAt.{Fine, Fault};
+ghost use Rattle.refusals.specs.AnswerAt.{Fine};
+ghost use Rattle.refusals.specs.Says.{says, says_at};
 ghost use Rattle.refusals.specs.Table.{outside};
 ghost use Rattle.opcodes.specs.Encode.{code, low_first, encode_of};
-ghost use Rattle.opcodes.specs.Says.{says_encoded};
 ghost use Rattle.pen.specs.Pens.{size, begun};
-ghost use Rattle.symbols.specs.Says.{says_data};
 ghost use Rattle.form.specs.Form.{max_tape};
 ghost use Rattle.form.specs.Statements.{what_of, is_followed, statements, placed};
 ghost use Rattle.evaluator.specs.Expression as E;
@@ -19,47 +18,35 @@ ghost use Rattle.walk.specs.Numbers.{numbers_in, reads_noted};
 ghost use Rattle.walk.specs.Walk.{origin, is_place};
 ghost use Rattle.tries.specs.Try.{compared, instruction_of, try_of};
 ghost use Rattle.tries.specs.Tries.{page, drawn, trying, start, tries};
-ghost use Rattle.tries.specs.Write.{write_of, range_of, says_written, image_or, says_tried};
+ghost use Rattle.tries.specs.Write.{write_of, range_of, says_written, image_or};
 ghost use Rattle.tries.specs.Steps.{bytes_in, says_drawn, says_stepped, place_behind, walk_behind, tried_over};
 
-use branch::Distance;
 use compares::Compares;
 use evaluator::Value;
 use form::LONGEST;
-use opcodes::{Code, Encoded};
-use pen::Pen;
-use refusals::{ARGUMENT, OUTSIDE, Outcome, OutcomeAt, UNRESOLVED};
-use segment::Drawn;
-use symbols::{Data, NODES};
+use opcodes::Code;
+use pen::{Pen, SIZE};
+use refusals::{Fault, Refusal};
+use symbols::Numbers;
 use tape::{BYTE, CLOSE_SCOPE, CONSTANT, INSTRUCTION, LABEL, OPEN_SCOPE, SET_PLACE};
-use walk::{Numbers, Walk};
+use walk::Walk;
 
-// How many bytes an image has; also the greatest place.
-const SIZE: usize = 65536;
-
-// Where what is written starts and ends, or the refusal.
-#[derive(Clone, Copy)]
-pub enum Written {
-    Range { start: usize, end: usize },
-    Refused { number: u8, at: usize },
+// Where what is written starts and ends.
+#[derive(Clone, Copy, Debug, PartialEq, Eq)]
+pub struct Written {
+    pub start: usize,
+    pub end: usize,
 }
 
-// The bytes of a statement, or its refusal.
-#[derive(Clone, Copy)]
-pub enum Tried {
-    Bytes(Code),
-    Refused { number: u8, at: usize },
-}
-
-// Behind a record: the pen and the walk, and whether the record was refused.
+// The pen and the walk behind a record.
 #[derive(Clone, Copy)]
 struct Stepped {
     pen: Pen,
     walk: Walk,
-    answer: OutcomeAt,
 }
 
 // Tries every statement with these numbers, and writes the image if none is refused.
+#[tactic(auto, unfolding(crate::specs::Write::write_of, crate::specs::Write::is_allowed))]
 pub fn write<'a>(
     tape: &'a [u8],
     nodes: &'a [u16],
@@ -67,7 +54,7 @@ pub fn write<'a>(
     initial: usize,
     compares: Compares,
     image: &mut [u8],
-) -> Written
+) -> Result<Written, Fault>
     ensures { (says_written result
         ≡ At.mapped range_of (write_of tape.now nodes.now numbers initial compares (length image.old)))
         × (image.new
@@ -75,114 +62,60 @@ pub fn write<'a>(
         (write_of tape.now nodes.now numbers initial compares (length image.old))) }
 {
     if LONGEST < tape.len() {
-        return refused(ARGUMENT, 0);
+        return Err(Refusal::Argument.at(0));
     }
     if SIZE < initial {
-        return refused(ARGUMENT, 0);
+        return Err(Refusal::Argument.at(0));
     }
     if image.len() != SIZE {
-        return refused(ARGUMENT, 0);
+        return Err(Refusal::Argument.at(0));
     }
     let mut scratch = [0u8; SIZE];
-    match draw_all(
-        tape,
-        nodes,
-        &numbers.known,
-        &numbers.number,
-        initial,
-        compares,
-        &mut scratch,
-    ) {
-        Written::Refused { number, at } => refused(number, at),
-        Written::Range { start, end } => {
-            copy(image, &scratch);
-            Written::Range { start, end }
-        }
-    }
-}
-
-// A refusal.
-fn refused(number: u8, at: usize) -> Written
-    ensures { says_written result ≡ Fault number at }
-{
-    Written::Refused { number, at }
-}
-
-// Lays the bytes over an image of the same length.
-fn copy(image: &mut [u8], bytes: &[u8])
-    requires { length image.old ≡ length bytes.now }
-    ensures { image.new ≡ bytes.now }
-{
-    let mut i: usize = 0;
-    while i < image.len() {
-        image[i] = bytes[i];
-        i += 1;
-    }
+    let written = draw_all(tape, nodes, &numbers, initial, compares, &mut scratch)?;
+    image.copy_from_slice(&scratch);
+    Ok(written)
 }
 
 // Tries every statement, and draws what it writes into an image of zeros.
 fn draw_all<'a>(
     tape: &'a [u8],
     nodes: &'a [u16],
-    known: &'a [bool; NODES],
-    number: &'a [i64; NODES],
+    numbers: &'a Numbers,
     initial: usize,
     compares: Compares,
     image: &mut [u8],
-) -> Written
+) -> Result<Written, Fault>
     requires { (length tape.now ≤ max_tape) × (initial ≤ size) × (image.old ≡ replicate size 0) }
     ensures { (says_written result ≡ At.mapped range_of (tries (reads_noted tape.now nodes.now) compares
-        (numbers_in known.now number.now) (start (origin initial)) (statements tape.now)))
+        (numbers_in numbers.now) (start (origin initial)) (statements tape.now)))
         × (image.new ≡ image_or image.new (tries (reads_noted tape.now nodes.now) compares
-        (numbers_in known.now number.now) (start (origin initial)) (statements tape.now))) }
+        (numbers_in numbers.now) (start (origin initial)) (statements tape.now))) }
 {
-    let mut pen = begin(initial);
+    let mut pen = pen::begin(initial, initial);
     let mut walk = Walk {
         place: initial,
         names: 0,
     };
     let mut at: usize = 0;
+    // A record's length is the step of this walk: no index is counted.
     while at < tape.len() {
         let rec = tape::record(tape, at);
         if form::is_last(rec) {
-            return range(pen);
+            return Ok(range(pen));
         }
-        let stepped = advance(
-            tape, nodes, known, number, compares, pen, walk, rec, at, image,
-        );
-        let answer = stepped.answer;
-        match answer {
-            OutcomeAt::Refused { number: n, at: i } => return refused(n, i),
-            OutcomeAt::Done => {
-                pen = stepped.pen;
-                walk = stepped.walk;
-                at += rec.len();
-            }
-        }
+        let stepped = advance(tape, nodes, numbers, compares, pen, walk, rec, at, image)?;
+        pen = stepped.pen;
+        walk = stepped.walk;
+        at += rec.len();
     }
-    range(pen)
-}
-
-// A pen at the initial place.
-fn begin(initial: usize) -> Pen
-    requires { initial ≤ size }
-    ensures { result ≡ begun initial initial }
-{
-    Pen {
-        place: initial,
-        initial,
-        target: initial,
-        start: initial,
-        end: initial,
-        emitted: false,
-    }
+    Ok(range(pen))
 }
 
 // Where what a pen wrote starts and ends.
 fn range(pen: Pen) -> Written
-    ensures { says_written result ≡ Fine (pen.start, pen.end) }
+    ensures { result ≡ record { start = pen.start; end = pen.end } }
 {
-    Written::Range {
+    Written {
         start: pen.start,
         end: pen.end,
     }
@@ -192,54 +125,37 @@ fn range(pen: Pen) -> Written
 fn advance<'a>(
     tape: &'a [u8],
     nodes: &'a [u16],
-    known: &'a [bool; NODES],
-    number: &'a [i64; NODES],
+    numbers: &'a Numbers,
     compares: Compares,
     pen: Pen,
     walk: Walk,
     rec: &'a [u8],
     at: usize,
     image: &mut [u8],
-) -> Stepped
+) -> Result<Stepped, Fault>
     requires { (walk.place ≤ size) × (walk.names < size) × (at + length rec.now ≤ size) }
     ensures { says_stepped result image.new
-        ≡ tried_over (reads_noted tape.now nodes.now) compares (numbers_in known.now number.now)
+        ≡ tried_over (reads_noted tape.now nodes.now) compares (numbers_in numbers.now)
         (trying walk (page pen image.old)) at rec.now }
 {
     if form::is_inner(rec) {
-        return Stepped {
-            pen,
-            walk,
-            answer: OutcomeAt::Done,
-        };
+        return Ok(Stepped { pen, walk });
     }
     let place = walk.place as i64;
-    let value = walk::value_of(tape, nodes, known, number, place, rec, at + rec.len());
-    let own = own_number(known, number, walk.names);
-    match attempt(compares, own, place, rec, at, value) {
-        Tried::Refused { number: n, at: i } => Stepped {
-            pen,
-            walk,
-            answer: OutcomeAt::Refused { number: n, at: i },
-        },
-        Tried::Bytes(code) => put(pen, walk, little::u8_at(rec, 0), at, value, code, image),
-    }
+    let value = walk::value_of(tape, nodes, numbers, place, rec, at + rec.len());
+    let own = own_number(numbers, walk.names);
+    let code = attempt(compares, own, place, rec, at, value)?;
+    put(pen, walk, little::u8_at(rec, 0), at, value, code, image)
 }
 
 // The number in the list of the name that is declared next.
-fn own_number<'a>(known: &'a [bool; NODES], number: &'a [i64; NODES], names: usize) -> Data
+#[tactic(auto, unfolding(walk::specs::Numbers::numbers_in))]
+fn own_number<'a>(numbers: &'a Numbers, names: usize) -> Option<i64>
     requires { names < size }
-    ensures { says_data result ≡ numbers_in known.now number.now (suc names) }
+    ensures { result ≡ numbers_in numbers.now (suc names) }
 {
     let node = names + 1;
-    if NODES <= node {
-        return Data::Unresolved;
-    }
-    if known[node] {
-        Data::Number(number[node])
-    } else {
-        Data::Unresolved
-    }
+    numbers.get(node).copied().flatten()
 }
 
 // Draws the bytes of a statement that passed, and moves the walk behind it.
@@ -251,55 +167,34 @@ fn put(
     value: Value,
     code: Code,
     image: &mut [u8],
-) -> Stepped
+) -> Result<Stepped, Fault>
     requires { (walk.place ≤ size) × (walk.names < size) × (code.len ≤ 3) }
     ensures { says_stepped result image.new
         ≡ At.mapped (λ p. trying (walk_behind walk kind (says_value value) code.len) p)
         (placed at (drawn (page pen image.old) walk.place (bytes_in code))) }
 {
-    let drawn = draw(pen, walk.place, code, image);
-    let answer = drawn.answer;
-    match answer {
-        Outcome::Refused(number) => Stepped {
-            pen,
-            walk,
-            answer: OutcomeAt::Refused { number, at },
-        },
-        Outcome::Done => {
-            let moved = drawn.pen;
-            Stepped {
-                pen: moved,
-                walk: behind(walk, kind, value, code.len as usize),
-                answer: OutcomeAt::Done,
-            }
-        }
-    }
+    let moved = draw(pen, walk.place, code, image).map_err(|why| why.at(at))?;
+    Ok(Stepped {
+        pen: moved,
+        walk: behind(walk, kind, value, code.len as usize),
+    })
 }
 
 // The pen goes to a place and writes there; no bytes are no write.
-fn draw(pen: Pen, place: usize, code: Code, image: &mut [u8]) -> Drawn
+fn draw(pen: Pen, place: usize, code: Code, image: &mut [u8]) -> Result<Pen, Refusal>
     requires { code.len ≤ 3 }
     ensures { says_drawn result image.new ≡ drawn (page pen image.old) place (bytes_in code) }
 {
     if code.len == 0 {
-        return Drawn {
-            pen,
-            answer: Outcome::Done,
-        };
+        return Ok(pen);
     }
-    let there = segment::set_pc(pen, place);
-    let answer = there.answer;
-    match answer {
-        Outcome::Refused(_) => there,
-        Outcome::Done => {
-            let bytes = [code.b0, code.b1, code.b2];
-            let moved = there.pen;
-            segment::emit(moved, image, &bytes[..code.len as usize])
-        }
-    }
+    let there = segment::set_pc(pen, place)?;
+    let bytes = [code.b0, code.b1, code.b2];
+    segment::emit(there, image, &bytes[..code.len as usize])
 }
 
 // The walk behind a record of this kind that wrote so many bytes.
+#[tactic(auto, unfolding(crate::specs::Steps::walk_behind))]
 fn behind(walk: Walk, kind: u8, value: Value, len: usize) -> Walk
     requires { (walk.place ≤ size) × (walk.names < size) × (len ≤ 3) }
     ensures { result ≡ walk_behind walk kind (says_value value) len }
@@ -311,6 +206,7 @@ fn behind(walk: Walk, kind: u8, value: Value, len: usize) -> Walk
 }
 
 // The place behind it.
+#[tactic(auto, unfolding(crate::specs::Steps::place_behind))]
 fn place_behind(kind: u8, value: Value, place: usize, len: usize) -> usize
     requires { (place ≤ size) × (len ≤ 3) }
     ensures { result ≡ place_behind kind (says_value value) place len }
@@ -322,59 +218,72 @@ fn place_behind(kind: u8, value: Value, place: usize, len: usize) -> usize
 }
 
 // A statement with the offset `at`, tried at a place: its expression comes to `value`, and its name has the number `own` in the list.
+#[tactic(auto, unfolding(form::specs::Statements::what_of))]
 pub fn attempt(
     compares: Compares,
-    own: Data,
+    own: Option<i64>,
     place: i64,
     rec: &[u8],
     at: usize,
     value: Value,
-) -> Tried
-    ensures { says_tried result ≡ At.mapped code (try_of compares (says_data own) place at (what_of rec.now) (says_value value)) }
+) -> Result<Code, Fault>
+    ensures { says_at result ≡ At.mapped code (try_of compares own place at (what_of rec.now) (says_value value)) }
 {
     if !form::is_followed(rec) {
         return attempt_alone(compares, own, place, rec, at);
     }
     match value {
-        Value::Unresolved(_) => Tried::Refused {
-            number: UNRESOLVED,
-            at,
-        },
-        Value::Refused { number, .. } => Tried::Refused { number, at },
+        Value::Unresolved(_) => Err(Refusal::Unresolved.at(at)),
+        Value::Refused(fault) => Err(fault.why.at(at)),
         Value::Number(z) => attempt_with(compares, own, place, rec, at, z),
     }
 }
 
 // A statement without an expression.
-fn attempt_alone(compares: Compares, own: Data, place: i64, rec: &[u8], at: usize) -> Tried
+#[tactic(auto, unfolding(form::specs::Statements::what_of))]
+fn attempt_alone(
+    compares: Compares,
+    own: Option<i64>,
+    place: i64,
+    rec: &[u8],
+    at: usize,
+) -> Result<Code, Fault>
     requires { is_followed (what_of rec.now) ≡ false }
-    ensures { (v : E.Value) → says_tried result
-        ≡ At.mapped code (try_of compares (says_data own) place at (what_of rec.now) v) }
+    ensures { (v : E.Value) → says_at result
+        ≡ At.mapped code (try_of compares own place at (what_of rec.now) v) }
 {
     let kind = little::u8_at(rec, 0);
     if kind == INSTRUCTION {
-        return encoded(encode(rec, 0), at);
+        return encode(rec, 0).map_err(|why| why.at(at));
     }
     if kind == LABEL {
         return compare(compares.label, own, place, at);
     }
     if kind == OPEN_SCOPE {
-        return nothing();
+        return Ok(nothing());
     }
     if kind == CLOSE_SCOPE {
-        return nothing();
+        return Ok(nothing());
     }
-    byte(text_encoding::petscreen(little::u8_at(rec, 1)))
+    Ok(byte(text_encoding::petscreen(little::u8_at(rec, 1))))
 }
 
 // A statement whose expression is a number.
-fn attempt_with(compares: Compares, own: Data, place: i64, rec: &[u8], at: usize, z: i64) -> Tried
+#[tactic(auto, unfolding(form::specs::Statements::what_of))]
+fn attempt_with(
+    compares: Compares,
+    own: Option<i64>,
+    place: i64,
+    rec: &[u8],
+    at: usize,
+    z: i64,
+) -> Result<Code, Fault>
     requires { is_followed (what_of rec.now) ≡ true }
-    ensures { says_tried result ≡ At.mapped code (try_of compares (says_data own) place at (what_of rec.now) (E.Number z)) }
+    ensures { says_at result ≡ At.mapped code (try_of compares own place at (what_of rec.now) (E.Number z)) }
 {
     let kind = little::u8_at(rec, 0);
     if kind == INSTRUCTION {
-        return encoded(instruction(rec, place, z), at);
+        return instruction(rec, place, z).map_err(|why| why.at(at));
     }
     if kind == CONSTANT {
         return compare(compares.constant, own, z, at);
@@ -383,98 +292,79 @@ fn attempt_with(compares: Compares, own: Data, place: i64, rec: &[u8], at: usize
         return place_only(z, at);
     }
     if kind == BYTE {
-        return byte(int64::low_byte(z));
+        return Ok(byte(int64::low_byte(z)));
     }
-    word(int64::low_word(z))
+    Ok(word(int64::low_word(z)))
 }
 
 // No bytes.
-fn nothing() -> Tried
-    ensures { says_tried result ≡ Fine (code []) }
+fn nothing() -> Code
+    ensures { result ≡ code [] }
 {
-    Tried::Bytes(Code {
+    Code {
         len: 0,
         b0: 0,
         b1: 0,
         b2: 0,
-    })
+    }
 }
 
 // One byte.
-fn byte(b: u8) -> Tried
-    ensures { says_tried result ≡ Fine (code (b ∷ [])) }
+fn byte(b: u8) -> Code
+    ensures { result ≡ code (b ∷ []) }
 {
-    Tried::Bytes(Code {
+    Code {
         len: 1,
         b0: b,
         b1: 0,
         b2: 0,
-    })
+    }
 }
 
 // Two bytes, low first.
-fn word(w: u16) -> Tried
-    ensures { says_tried result ≡ Fine (code (low_first 2 w)) }
+fn word(w: u16) -> Code
+    ensures { result ≡ code (low_first 2 w) }
 {
-    Tried::Bytes(Code {
+    Code {
         len: 2,
         b0: (w % 256) as u8,
         b1: (w / 256) as u8,
         b2: 0,
-    })
+    }
 }
 
-// A number against the one in the list, if it is to be compared.
-fn compare(number: u8, own: Data, z: i64, at: usize) -> Tried
-    ensures { says_tried result ≡ At.mapped code (compared number (says_data own) z at) }
+// A number against the one in the list, by the refusal that a difference gives.
+fn compare(refusal: Option<Refusal>, own: Option<i64>, z: i64, at: usize) -> Result<Code, Fault>
+    ensures { says_at result ≡ At.mapped code (compared refusal own z at) }
 {
-    if number == 0 {
-        return nothing();
-    }
-    match own {
-        Data::Unresolved => Tried::Refused { number, at },
-        Data::Number(y) => {
-            if y == z {
-                nothing()
+    match refusal {
+        None => Ok(nothing()),
+        Some(why) => {
+            if own == Some(z) {
+                Ok(nothing())
             } else {
-                Tried::Refused { number, at }
+                Err(why.at(at))
             }
         }
     }
 }
 
 // No bytes, where the number is a place.
-fn place_only(z: i64, at: usize) -> Tried
-    ensures { says_tried result ≡ At.mapped code (pick (is_place z) (Fine []) (Fault outside at)) }
+fn place_only(z: i64, at: usize) -> Result<Code, Fault>
+    ensures { says_at result ≡ At.mapped code (pick (is_place z) (Fine []) (At.Fault outside at)) }
 {
     if z < 0 {
-        return Tried::Refused {
-            number: OUTSIDE,
-            at,
-        };
+        return Err(Refusal::Outside.at(at));
     }
     if (SIZE as i64) < z {
-        return Tried::Refused {
-            number: OUTSIDE,
-            at,
-        };
+        return Err(Refusal::Outside.at(at));
     }
-    nothing()
-}
-
-// The bytes of an instruction, or its refusal at its offset.
-fn encoded(encoded: Encoded, at: usize) -> Tried
-    ensures { says_tried result ≡ placed at (says_encoded encoded) }
-{
-    match encoded {
-        Encoded::Bytes(code) => Tried::Bytes(code),
-        Encoded::Refused(number) => Tried::Refused { number, at },
-    }
+    Ok(nothing())
 }
 
 // The bytes of an instruction's record with an operand.
-fn encode(rec: &[u8], operand: i64) -> Encoded
-    ensures { says_encoded result
+fn encode(rec: &[u8], operand: i64) -> Result<Code, Refusal>
+    ensures { says result
         ≡ mapped code (encode_of (get_or rec.now 1 0) (get_or rec.now 2 0) (get_or rec.now 3 0) operand) }
 {
     opcodes::encode(
@@ -486,8 +376,9 @@ fn encode(rec: &[u8], operand: i64) -> Encoded
 }
 
 // The bytes of an instruction at a place: a branch has its distance for an operand.
-fn instruction(rec: &[u8], place: i64, z: i64) -> Encoded
-    ensures { says_encoded result
+#[tactic(auto, unfolding(crate::specs::Try::instruction_of))]
+fn instruction(rec: &[u8], place: i64, z: i64) -> Result<Code, Refusal>
+    ensures { says result
         ≡ mapped code (instruction_of (get_or rec.now 1 0) (get_or rec.now 2 0) (get_or rec.now 3 0) place z) }
 {
     if !opcodes::is_branch(
@@ -497,8 +388,6 @@ fn instruction(rec: &[u8], place: i64, z: i64) -> Encoded
     ) {
         return encode(rec, z);
     }
-    match branch::distance_of(place, z) {
-        Distance::Refused(number) => Encoded::Refused(number),
-        Distance::Byte(b) => encode(rec, b as i64),
-    }
+    let distance = branch::distance_of(place, z)?;
+    encode(rec, i64::from(distance))
 }

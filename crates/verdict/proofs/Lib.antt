@@ -1,4 +1,3 @@
--- Bytes compared, and what the tries answer, judged.
-pub mod Bytes
+-- That what is written lies in the image; and that the call allows one answer.
 pub mod Judging
 pub mod Unique

@@ -1,17 +1,14 @@
 -- The verdict behind form, names and the list's length. Document 01: the checker "tries records the same way, with 17, for a constant's
 -- number too, in place of 13, then compares start, length and bytes (18 at 0)". Assumes nothing: these are definitions.
-use Rattle.std.specs.Prelude.{ℕ, ◌-◌, Bool, ◌&&◌, List, eqb, take, drop}
+use Rattle.std.specs.Prelude.{ℕ, ◌-◌, Bool, ◌&&◌, List, eqb, ℤ, take, drop, Option}
 use Rattle.refusals.specs.Answer.{pick}
 use Rattle.refusals.specs.AnswerAt.{AnswerAt, Fine, Fault, and_then}
 use Rattle.refusals.specs.Table.{bytes_differ}
 use Rattle.pen.specs.Pens.{size}
-use Rattle.walk.specs.declared.Numbers.{Numbers}
 use Rattle.walk.specs.Values.{same}
 use Rattle.compares.specs.Compared.{checker}
 use Rattle.tries.specs.Tries.{Trying}
 use Rattle.tries.specs.Write.{write_of}
-use Rattle.verdict.specs.declared.Checked as C
-use Rattle.verdict.specs.declared.Checked.TheVariants as cases
 
 -- ---- what was written, judged
 
@@ -30,11 +27,7 @@ judged start bytes t = pick (is_written start bytes t) (Fine tt) (Fault bytes_di
 
 -- ---- the call
 
-abbrev pub says_checked : C.Checked → AnswerAt (Unit {0})
-says_checked cases.Accepted = Fine tt
-says_checked (cases.Refused n at) = Fault n at
-
 -- the tries of a tape whose names have been resolved, with numbers by node, and what they wrote
-unfoldable pub verdict_of : (tape nodes : List ℕ) → Numbers → (initial start : ℕ) (bytes : List ℕ) → AnswerAt (Unit {0})
+unfoldable pub verdict_of : (tape nodes : List ℕ) → List (Option ℤ) → (initial start : ℕ) (bytes : List ℕ) → AnswerAt (Unit {0})
 verdict_of tape nodes numbers initial start bytes =
     and_then (write_of tape nodes numbers initial checker size) (judged start bytes)

@@ -1,7 +1,7 @@
 -- The tests of equality test it. Assumes nothing.
+use Rattle.std.specs.Prelude.{Option, None, Some}
 use mathlib.Core.Bool.{Bool, true, false, ◌&&◌}
 use mathlib.Core.List.{List, [], ◌∷◌}
-use mathlib.Core.Option.{Option, none, some}
 use mathlib.Core.Path.{◌≡◌, refl, sym, ap}
 use lib.IntN.{ℤ, pos, negsuc}
 use borrow.Author.Tests.{eqb-true}
@@ -17,14 +17,14 @@ eq_z_true (negsuc a) (pos b) e = never (cc)
 eq_z_true (negsuc a) (negsuc b) e = ap negsuc (eqb-true a b e)
 
 pub eq_value_true : (a b : Option ℤ) → eq_value a b ≡ true → a ≡ b
-eq_value_true none none e = refl
-eq_value_true none (some b) e = never (cc)
-eq_value_true (some a) none e = never (cc)
-eq_value_true (some a) (some b) e = ap some (eq_z_true a b e)
+eq_value_true None None e = refl
+eq_value_true None (Some b) e = never (cc)
+eq_value_true (Some a) None e = never (cc)
+eq_value_true (Some a) (Some b) e = ap Some (eq_z_true a b e)
 
 pub eq_value_same : (a : Option ℤ) → eq_value a a ≡ true
-eq_value_same none = refl
-eq_value_same (some a) = sym (eq_z_yes {a = a} {b = a} refl)
+eq_value_same None = refl
+eq_value_same (Some a) = sym (eq_z_yes {a = a} {b = a} refl)
 
 both_true : (a b : Bool) → (a && b) ≡ true → (a ≡ true) × (b ≡ true)
 both_true true b e = (refl, e)

@@ -1,8 +1,8 @@
 -- What a record says, by its kind: how many names it declares, how many bytes it writes, and where the place goes.
 -- Assumes nothing.
+use Rattle.std.specs.Prelude.{Option, None, Some}
 use mathlib.Core.Bool.{Bool, true, false, ◌&&◌}
 use mathlib.Core.List.{List, [], ◌∷◌}
-use mathlib.Core.Option.{Option, none, some}
 use mathlib.Core.Path.{◌≡◌, refl, sym, ap, ◌∙◌}
 use Prim.Native.Nat.{ℕ, ◌+◌, ◌≤◌}
 use native.Mathlib.Omega.{arith}
@@ -18,7 +18,7 @@ use Rattle.opcodes.specs.declared.Form.{Form}
 use Rattle.opcodes.specs.Manual.{forms_of}
 use Rattle.opcodes.specs.Encode.{length_of}
 use Rattle.opcodes.proofs.Manual.{short_form, short_forms}
-use Rattle.tape.specs.Kinds.{instruction, open_scope, close_scope, label, constant, set_place, word}
+use Rattle.tape.specs.Kinds.{instruction, open_scope, label, constant, set_place}
 use Rattle.form.specs.Form.{declares}
 use Rattle.form.specs.Statements.{What, Instruction, Open, Close, Label, Constant, SetPlace, Byte, Word, Screen, what_of, is_inner}
 use Rattle.form.proofs.Said as Said
@@ -43,42 +43,9 @@ module _ (r : List ℕ) where
         (by_kind r (λ n x. pick (declares n) (m + 1) m ≡ m + names_in x) none refl none refl refl none none none
         (λ n e. sym (at_false (m + 1) m e) ∙ none) k)
 
-    -- ---- lengths
-
-    triple : {a b d : ℕ} → a ≡ get_or r 1 0 → b ≡ get_or r 2 0 → d ≡ get_or r 3 0 → forms_of a b d ≡ forms_of (get_or r 1 0) (get_or r 2 0) (get_or r 3 0)
-    triple pa pb pd i = forms_of (pa i) (pb i) (pd i)
+    -- ---- places
 
     module _ (v : Option ℤ) where
-      pub length_instruction : k ≡ instruction → {a b d n : ℕ} {fs : List Form} → a ≡ get_or r 1 0 → b ≡ get_or r 2 0 → d ≡ get_or r 3 0
-          → fs ≡ forms_of a b d → n ≡ form_length fs v → n ≡ length_in (what_of r) v
-      length_instruction e pa pb pd pf h = rw (said instruction e) (h ∙ ap (λ (l : List Form). form_length l v) (pf ∙ triple pa pb pd))
-
-      -- a kind whose length is plain
-      pub length_said : (n m : ℕ) → k ≡ n → m ≡ length_in (what_by r n) v → m ≡ length_in (what_of r) v
-      length_said n m e h = rw (said n e) h
-
-      pub length_declares : declares k ≡ true → 0 ≡ length_in (what_of r) v
-      unfolding declares
-      length_declares t =
-          rw (said k refl)
-          (by_kind r (λ n x. declares n ≡ true → 0 ≡ length_in x v)
-          (λ e. never (cc)) (λ e. refl) (λ e. refl) (λ e. refl) (λ e. refl) (λ e. refl) (λ e. never (cc)) (λ e. never (cc))
-          (λ n f e. never (cc)) k t)
-
-      pub length_one : (k ≡ instruction → ⊥) → (k ≡ word → ⊥) → declares k ≡ false → (k ≡ close_scope → ⊥) → (k ≡ set_place → ⊥)
-          → 1 ≡ length_in (what_of r) v
-      unfolding declares
-      length_one a b t c d =
-          rw (said k refl)
-          (by_kind r
-          (λ n x. (n ≡ instruction → ⊥) → (n ≡ word → ⊥) → declares n ≡ false → (n ≡ close_scope → ⊥) → (n ≡ set_place → ⊥)
-          → 1 ≡ length_in x v)
-          (λ a b t c d. absurd (a refl)) (λ a b t c d. never (cc)) (λ a b t c d. absurd (c refl)) (λ a b t c d. never (cc))
-          (λ a b t c d. never (cc)) (λ a b t c d. absurd (d refl)) (λ a b t c d. refl) (λ a b t c d. absurd (b refl))
-          (λ n f a b t c d. refl) k a b t c d)
-
-      -- ---- places
-
       pub place_set : k ≡ set_place → (place : ℕ) → {n : ℕ} → n ≡ moved_to v place → n ≡ place_after (what_of r) v place
       place_set e place h = rw (said set_place e) h
 
@@ -127,8 +94,8 @@ place_in (pos n) e = go (leb 0 n) (leb n 65536) refl e
 place_in (negsuc n) e = never (cc)
 
 pub moved_most : (v : Option ℤ) (p m : ℕ) → p ≤ m → 65536 ≤ m → moved_to v p ≤ m
-moved_most none p m h b = h
-moved_most (some z) p m h b = go (is_place z) refl
+moved_most None p m h b = h
+moved_most (Some z) p m h b = go (is_place z) refl
   where
     go : (t : Bool) → is_place z ≡ t → pick t (nat_abs z) p ≤ m
     go true e = omega (arith, place_in z e)

@@ -1,6 +1,5 @@
 -- The numbers of a tape's names, and what a walk reads with them. Assumes nothing: these are definitions.
-use Rattle.std.specs.Prelude.{ℕ, zero, suc, ◌+◌, Bool, true, false, ◌&&◌, List, [], ◌∷◌, ℤ, get_or}
-use Rattle.std.proofs.Math.Option.{Option, none, some}
+use Rattle.std.specs.Prelude.{ℕ, zero, suc, ◌+◌, Bool, true, false, ◌&&◌, List, [], ◌∷◌, ℤ, get_or, Option, None, Some}
 use Rattle.refusals.specs.Answer.{pick}
 use Rattle.int64.specs.Num.{eq_z}
 use Rattle.form.specs.Statements.{Statement, is_followed}
@@ -16,14 +15,14 @@ Values = List (Option ℤ)
 
 -- the number of a node: declaration k is node k, and the root has none
 abbrev pub numbered : Values → ℕ → Option ℤ
-numbered L zero = none
-numbered L (suc k) = get_or L k none
+numbered L zero = None
+numbered L (suc k) = get_or L k None
 
 -- "A refused expression counts as unresolved"
 abbrev pub number_of : Value → Option ℤ
-number_of (Number z) = some z
-number_of (Unresolved at) = none
-number_of (Refuses n at) = none
+number_of (Number z) = Some z
+number_of (Unresolved at) = None
+number_of (Refuses n at) = None
 
 -- how many names the statements declare
 abbrev pub declarations : List Statement → ℕ
@@ -34,10 +33,10 @@ declarations (x ∷ xs) = names_in x.says + declarations xs
 
 -- "unresolved" equals "unresolved"
 abbrev pub eq_value : Option ℤ → Option ℤ → Bool
-eq_value none none = true
-eq_value none (some b) = false
-eq_value (some a) none = false
-eq_value (some a) (some b) = eq_z a b
+eq_value None None = true
+eq_value None (Some b) = false
+eq_value (Some a) None = false
+eq_value (Some a) (Some b) = eq_z a b
 
 -- two lists, by a test of their elements
 abbrev pub same : {A : Type 0} → (A → A → Bool) → List A → List A → Bool

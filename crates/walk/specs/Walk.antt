@@ -1,7 +1,6 @@
 -- A walk over the statements of a tape: what it carries from one to the next, how long a statement is, and what the walk becomes.
 -- Assumes nothing: these are definitions.
-use Rattle.std.specs.Prelude.{ℕ, ◌+◌, Bool, false, ◌&&◌, List, [], ◌∷◌, ℤ, pos, nat_abs}
-use Rattle.std.proofs.Math.Option.{Option, none, some}
+use Rattle.std.specs.Prelude.{ℕ, ◌+◌, Bool, false, ◌&&◌, List, [], ◌∷◌, ℤ, pos, nat_abs, Option, None, Some}
 use Rattle.std.specs.Int.Signed.{le_z}
 use Rattle.refusals.specs.Answer.{pick}
 use Rattle.opcodes.specs.declared.Form.{Form}
@@ -36,8 +35,8 @@ here w = pos w.place
 
 -- a form that an operand takes, before the row's last: an unresolved operand takes none
 abbrev pub takes_early : Form → Option ℤ → Bool
-takes_early f none = false
-takes_early f (some z) = takes f z
+takes_early f None = false
+takes_early f (Some z) = takes f z
 
 -- "An instruction is as long as its form; an unresolved operand takes the two-byte form where the row has one; a row of one form
 -- always has its length"
@@ -66,8 +65,8 @@ is_place z = le_z (pos 0) z && le_z z (pos 65536)
 
 -- "Set place does nothing if unresolved or outside 0..65,536"
 abbrev pub moved_to : Option ℤ → ℕ → ℕ
-moved_to none place = place
-moved_to (some z) place = pick (is_place z) (nat_abs z) place
+moved_to None place = place
+moved_to (Some z) place = pick (is_place z) (nat_abs z) place
 
 abbrev pub place_after : What → Option ℤ → ℕ → ℕ
 place_after SetPlace v place = moved_to v place

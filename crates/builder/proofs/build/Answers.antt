@@ -1,20 +1,15 @@
--- The arguments, the list made zero, the build, and the work memory made zero. Assumes nothing.
+-- The list made zero, the build, and the work memory made zero. Assumes nothing.
 use mathlib.Core.Path.{ap, ◌∙◌}
 use Prim.Native.Nat.{ℕ}
 use lib.IntN.{pos}
 use lib.ListN.{replicate}
-use Rattle.refusals.proofs.Pick.{granted, stopped, at_true}
+use Rattle.refusals.proofs.Pick.{granted, at_true}
 use Rattle.walk.specs.Walk.{origin}
 use Rattle.builds.specs.Build as Build
 use Rattle.builder.specs.Call.{memory, left, build_of}
 use Rattle.builder.proofs.Arguments.{allowed}
 use Rattle.builder.proofs.Builds.{left_all}
 use Rattle.builder.proofs.build.Goals as goal
-
-pub returns-then-not-is_allowed : goal.returns-then-not-is_allowed
-unfolding build_of
-returns-then-not-is_allowed c =
-    stopped _ _ c.is_allowed.ensures c.if-not-is_allowed.true
 
 pub build_laid-built-requires : goal.build_laid-built-requires
 build_laid-built-requires c =

@@ -1,38 +1,26 @@
 -- The arguments, the names, and the numbers behind them. Assumes nothing.
-use mathlib.Core.Path.{sym, ◌∙◌}
-use Rattle.refusals.proofs.Pick.{granted, stopped}
-use Rattle.checker.specs.Call.{check_of}
+use Rattle.std.proofs.lemmas.Result.{err_from_is_err_and}
+use Rattle.refusals.proofs.Pick.{granted}
 use Rattle.checker.proofs.Checks.{blank, blank_length, names_few, names_stop, names_go}
 use Rattle.checker.proofs.check.Goals as goal
-
-pub returns-then-not-is_allowed : goal.returns-then-not-is_allowed
-unfolding check_of
-returns-then-not-is_allowed c =
-    c.refused.ensures ∙ stopped _ _ c.is_allowed.ensures c.if-not-is_allowed.true
-
-pub slice_bounds-declare-end : goal.slice_bounds-declare-end
-slice_bounds-declare-end c = sym blank_length
-
-pub slice_bounds-check_numbers-end : goal.slice_bounds-check_numbers-end
-slice_bounds-check_numbers-end c = sym c.nodes-2-1.given
 
 pub check_numbers-requires : goal.check_numbers-requires
 check_numbers-requires c =
     let args = c.args in
-    let in_range_lem = granted c.is_allowed.ensures c.if-not-is_allowed.false in
-    names_few args.tape.now args.initial args.numbers.now args.start args.bytes.now in_range_lem blank blank_length
-    c.in-Done.is c.declare-declared.ensures.0
+    names_few args.tape.now args.initial args.numbers.now args.start args.bytes.now
+    (granted c.is_allowed.ensures c.if-not-is_allowed.false) blank blank_length c.in_ok-declare.ensures.0
 
-pub returns-in-Refused : goal.returns-in-Refused
-returns-in-Refused c =
+pub returns-in_err-declare : goal.returns-in_err-declare
+returns-in_err-declare c =
     let args = c.args in
-    let in_range_lem = granted c.is_allowed.ensures c.if-not-is_allowed.false in
-    names_stop args.tape.now args.initial args.numbers.now args.start args.bytes.now in_range_lem blank blank_length
-    c.in-Refused.is c.declare-declared.ensures.0 c.refused-in-Refused.ensures
+    let out = err_from_is_err_and c.from_residual.result c.from_residual.ensures.1 in
+    rw (out.1, out.2)
+    (names_stop args.tape.now args.initial args.numbers.now args.start args.bytes.now
+    (granted c.is_allowed.ensures c.if-not-is_allowed.false) blank blank_length c.in_err-declare.ensures.0)
 
-pub returns-in-Done : goal.returns-in-Done
-returns-in-Done c =
+pub returns : goal.returns
+returns c =
     let args = c.args in
-    let in_range_lem = granted c.is_allowed.ensures c.if-not-is_allowed.false in
-    names_go args.tape.now args.initial args.numbers.now args.start args.bytes.now in_range_lem blank blank_length
-    c.in-Done.is c.declare-declared.ensures.0 c.declare-declared.ensures.1 c.check_numbers.ensures
+    names_go args.tape.now args.initial args.numbers.now args.start args.bytes.now
+    (granted c.is_allowed.ensures c.if-not-is_allowed.false) blank blank_length c.in_ok-declare.ensures.0 c.in_ok-declare.ensures.1
+    c.check_numbers.ensures

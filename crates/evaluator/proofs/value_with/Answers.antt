@@ -1,7 +1,8 @@
 -- The nodes are noted, and the expression is computed with them. Assumes nothing.
-use Rattle.evaluator.proofs.Evaluates as evaluates
+use mir.Facts.{to_z-of_z}
+use Rattle.evaluator.proofs.Evaluates.{value_noted}
 use Rattle.evaluator.proofs.value_with.Goals as goal
 
 pub returns : goal.returns
 returns c =
-    evaluates.value_noted _ _ _ _ _ _ _ c.ranges.place c.requires c.resolve.ensures c.expression_at-step.ensures
+    value_noted _ _ _ _ _ _ _ c.requires c.resolve.ensures (rw (to_z-of_z c.ranges.place) at c.expression_at.ensures)

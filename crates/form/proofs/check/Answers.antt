@@ -1,101 +1,62 @@
 -- What the search leaves. Assumes nothing.
-use mathlib.Core.Path.{◌∙◌}
-use native.Mathlib.Omega.{arith}
-use Rattle.form.proofs.Loop.{Turn, Step, too_long, inv_start, at_end, refused_head, turn_good, is_ready, refused_short, within, refused_step, at_stop, onward}
+use Rattle.std.proofs.Common.{ap, ◌∙◌, ◌≡◌}
+use Rattle.std.proofs.lemmas.Result.{err_from_is_err_and}
+use Rattle.std.specs.Prelude.{Ok}
+use Rattle.refusals.specs.declared.Fault.{Fault}
+use Rattle.form.proofs.Mapped.{mapped_err, mapped_ok}
+use Rattle.form.proofs.Loop.{too_long, at_end, refused_head, turn_good, stepped, is_ready, refused_short, refused_step, at_stop, onward}
 use Rattle.form.proofs.check.Goals as goal
 
 pub returns-then-len-gt-LONGEST : goal.returns-then-len-gt-LONGEST
-returns-then-len-gt-LONGEST c = c.refused.ensures ∙ too_long _ _ c.if-len-gt-LONGEST.true
+returns-then-len-gt-LONGEST c = rw c.at.ensures (too_long _ _ c.if-len-gt-LONGEST.true)
 
-pub loop-at-init : goal.loop-at-init
-loop-at-init c = inv_start _ _ c.if-len-gt-LONGEST.false _ c.start-s.ensures.0 c.start-s.ensures.1
-
-pub depth-requires : goal.depth-requires
-depth-requires c = c.loop-at.invariant.fit
-
-pub returns-then-h-ne0 : goal.returns-then-h-ne0
-returns-then-h-ne0 c =
-    let inside = c.loop-at-test.true in
-    let why = refused_head c.loop-at.invariant _ c.depth.ensures inside _ c.head_fault-h.ensures in
-    c.refused-then-h-ne0.ensures ∙ why c.if-h-ne0.true
+pub returns-in_err-map_err : goal.returns-in_err-map_err
+returns-in_err-map_err c =
+    let why = mapped_err c.head_fault.result c.map_err.result _ c.map_err.ensures.cases _ c.in_err-map_err.was in
+    let made = why.2 in
+    let fault : Fault = record { why = why.0; at = c.loop-at.at } in
+    let is : c.in_err-map_err.field-0.0 ≡ fault = cc in
+    let out = err_from_is_err_and c.from_residual.result c.from_residual.ensures.1 in
+    rw (out.1, out.2, is) (refused_head c.loop-at.invariant _ c.depth.ensures c.loop-at-test.true _ c.head_fault.ensures _ why.1)
 
 pub returns-then-n-eq0 : goal.returns-then-n-eq0
 returns-then-n-eq0 c =
-    c.refused-then-n-eq0.ensures ∙ refused_short (let it : let args = c.args in Turn args.alone args.bytes.now c.loop-at.s c.loop-at.at = let inside = c.loop-at-test.true in
-    turn_good c.loop-at.invariant _ c.depth.ensures inside _ c.head_fault-h.ensures c.if-h-ne0.false in it) _ c.record-rec.ensures c.if-n-eq0.true
+    let passed = mapped_ok c.head_fault.result c.map_err.result _ c.map_err.ensures.cases _ c.in_ok-map_err.was in
+    let turn = turn_good c.loop-at.invariant _ c.depth.ensures c.loop-at-test.true _ c.head_fault.ensures passed in
+    rw c.at-then-n-eq0.ensures (refused_short turn _ c.record-rec.ensures c.if-n-eq0.true)
 
-pub step-out-requires : goal.step-out-requires
-step-out-requires c = is_ready (let it : let args = c.args in Turn args.alone args.bytes.now c.loop-at.s c.loop-at.at = let inside = c.loop-at-test.true in
-    turn_good c.loop-at.invariant _ c.depth.ensures inside _ c.head_fault-h.ensures c.if-h-ne0.false in it)
+pub step-requires : goal.step-requires
+step-requires c =
+    let passed = mapped_ok c.head_fault.result c.map_err.result _ c.map_err.ensures.cases _ c.in_ok-map_err.was in
+    is_ready (turn_good c.loop-at.invariant _ c.depth.ensures c.loop-at-test.true _ c.head_fault.ensures passed)
 
-pub returns-in-No : goal.returns-in-No
-returns-in-No c =
-    c.refused-in-No.ensures ∙ refused_step (let it : let args = c.args in let read = c.record-rec in Step args.alone args.bytes.now c.loop-at.s c.loop-at.at read.result.now c.step-out.result = record {
-      turn = (let it : let args = c.args in Turn args.alone args.bytes.now c.loop-at.s c.loop-at.at = let inside = c.loop-at-test.true in
-          turn_good c.loop-at.invariant _ c.depth.ensures inside _ c.head_fault-h.ensures c.if-h-ne0.false in it);
-      is = c.record-rec.ensures;
-      some = c.if-n-eq0.false;
-      told = c.step-out.ensures.0;
-    } in it) _ c.in-No.is
+pub returns-in_err-map_err-2 : goal.returns-in_err-map_err-2
+returns-in_err-map_err-2 c =
+    let passed = mapped_ok c.head_fault.result c.map_err.result _ c.map_err.ensures.cases _ c.in_ok-map_err.was in
+    let why = mapped_err c.step.result c.map_err-in-loop-at.result _ c.map_err-in-loop-at.ensures.cases _ c.in_err-map_err-2.was in
+    let made = why.2 in
+    let fault : Fault = record { why = why.0; at = c.loop-at.at } in
+    let is : c.in_err-map_err-2.field-0.0 ≡ fault = cc in
+    let out = err_from_is_err_and c.from_residual-in_err-map_err-2.result c.from_residual-in_err-map_err-2.ensures.1 in
+    let turn = stepped c.loop-at.invariant _ c.depth.ensures c.loop-at-test.true _ c.head_fault.ensures passed
+    _ c.record-rec.ensures c.if-n-eq0.false _ c.step.ensures.0 in
+    rw (out.1, out.2, is) (refused_step turn _ why.1)
 
-pub overflow_add-at : goal.overflow_add-at
-overflow_add-at c = omega (
-  arith,
-  within (let it : let args = c.args in let read = c.record-rec in Step args.alone args.bytes.now c.loop-at.s c.loop-at.at read.result.now c.step-out.result = record {
-    turn = (let it : let args = c.args in Turn args.alone args.bytes.now c.loop-at.s c.loop-at.at = let inside = c.loop-at-test.true in
-        turn_good c.loop-at.invariant _ c.depth.ensures inside _ c.head_fault-h.ensures c.if-h-ne0.false in it);
-    is = c.record-rec.ensures;
-    some = c.if-n-eq0.false;
-    told = c.step-out.ensures.0;
-  } in it),
-)
-
-pub returns-in-Stop : goal.returns-in-Stop
-returns-in-Stop c = c.ended.ensures ∙ at_stop (let it : let args = c.args in let read = c.record-rec in Step args.alone args.bytes.now c.loop-at.s c.loop-at.at read.result.now c.step-out.result = record {
-  turn = (let it : let args = c.args in Turn args.alone args.bytes.now c.loop-at.s c.loop-at.at = let inside = c.loop-at-test.true in
-      turn_good c.loop-at.invariant _ c.depth.ensures inside _ c.head_fault-h.ensures c.if-h-ne0.false in it);
-  is = c.record-rec.ensures;
-  some = c.if-n-eq0.false;
-  told = c.step-out.ensures.0;
-} in it) c.in-Stop.is
-
-pub overflow_add-at-in-Go : goal.overflow_add-at-in-Go
-overflow_add-at-in-Go c = omega (
-  arith,
-  within (let it : let args = c.args in let read = c.record-rec in Step args.alone args.bytes.now c.loop-at.s c.loop-at.at read.result.now c.step-out.result = record {
-    turn = (let it : let args = c.args in Turn args.alone args.bytes.now c.loop-at.s c.loop-at.at = let inside = c.loop-at-test.true in
-        turn_good c.loop-at.invariant _ c.depth.ensures inside _ c.head_fault-h.ensures c.if-h-ne0.false in it);
-    is = c.record-rec.ensures;
-    some = c.if-n-eq0.false;
-    told = c.step-out.ensures.0;
-  } in it),
-)
-
-pub loop-at-smaller : goal.loop-at-smaller
-loop-at-smaller c = omega (
-  arith,
-  within (let it : let args = c.args in let read = c.record-rec in Step args.alone args.bytes.now c.loop-at.s c.loop-at.at read.result.now c.step-out.result = record {
-    turn = (let it : let args = c.args in Turn args.alone args.bytes.now c.loop-at.s c.loop-at.at = let inside = c.loop-at-test.true in
-        turn_good c.loop-at.invariant _ c.depth.ensures inside _ c.head_fault-h.ensures c.if-h-ne0.false in it);
-    is = c.record-rec.ensures;
-    some = c.if-n-eq0.false;
-    told = c.step-out.ensures.0;
-  } in it),
-)
+pub returns-in-None : goal.returns-in-None
+returns-in-None c =
+    let passed = mapped_ok c.head_fault.result c.map_err.result _ c.map_err.ensures.cases _ c.in_ok-map_err.was in
+    let turn = stepped c.loop-at.invariant _ c.depth.ensures c.loop-at-test.true _ c.head_fault.ensures passed
+    _ c.record-rec.ensures c.if-n-eq0.false _ c.step.ensures.0 in
+    let gave = mapped_ok c.step.result c.map_err-in-loop-at.result _ c.map_err-in-loop-at.ensures.cases _ c.in_ok-map_err-2.was in
+    c.ended.ensures ∙ at_stop turn (gave ∙ ap Ok c.in-None.is)
 
 pub loop-at-preserved : goal.loop-at-preserved
 loop-at-preserved c =
-    onward (let it : let args = c.args in let read = c.record-rec in Step args.alone args.bytes.now c.loop-at.s c.loop-at.at read.result.now c.step-out.result = record {
-      turn = (let it : let args = c.args in Turn args.alone args.bytes.now c.loop-at.s c.loop-at.at = let inside = c.loop-at-test.true in
-          turn_good c.loop-at.invariant _ c.depth.ensures inside _ c.head_fault-h.ensures c.if-h-ne0.false in it);
-      is = c.record-rec.ensures;
-      some = c.if-n-eq0.false;
-      told = c.step-out.ensures.0;
-    } in it) c.in-Go.is c.step-out.ensures.1
-
-pub depth-requires-2 : goal.depth-requires-2
-depth-requires-2 c = c.loop-at.invariant.fit
+    let passed = mapped_ok c.head_fault.result c.map_err.result _ c.map_err.ensures.cases _ c.in_ok-map_err.was in
+    let turn = stepped c.loop-at.invariant _ c.depth.ensures c.loop-at-test.true _ c.head_fault.ensures passed
+    _ c.record-rec.ensures c.if-n-eq0.false _ c.step.ensures.0 in
+    let gave = mapped_ok c.step.result c.map_err-in-loop-at.result _ c.map_err-in-loop-at.ensures.cases _ c.in_ok-map_err-2.was in
+    onward turn _ (gave ∙ ap Ok c.in-Some.is) c.step.ensures.1
 
 pub returns : goal.returns
-returns c =
-    c.closed.ensures ∙ at_end c.loop-at.invariant _ c.depth-2.ensures c.loop-at-test.false
+returns c = c.closed.ensures ∙ at_end c.loop-at.invariant _ c.depth-2.ensures c.loop-at-test.false

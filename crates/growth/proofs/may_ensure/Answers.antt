@@ -1,18 +1,10 @@
 -- The tests in their order; what is missing of the path needs room. Assumes nothing.
 use mathlib.Core.Path.{ap, ◌∙◌}
 use Rattle.refusals.specs.Answer.{Done}
-use Rattle.refusals.proofs.Pick.{at_false, granted, denied}
-use Rattle.soundness.proofs.Nodes.{fails_first, fails_then, holds_both, node_has}
+use Rattle.refusals.proofs.Pick.{granted, denied}
+use Rattle.soundness.proofs.Nodes.{holds_both, node_has}
 use Rattle.growth.proofs.Laws.{depth_few, so_many, there_held, ensure_full, ensure_done}
 use Rattle.growth.proofs.may_ensure.Goals as goal
-
-pub returns-then-not-is_node : goal.returns-then-not-is_node
-returns-then-not-is_node c = at_false _ _ (fails_first _ (denied c.is_node.ensures c.if-not-is_node.true))
-
-pub returns-then-not-is_new_path : goal.returns-then-not-is_new_path
-returns-then-not-is_new_path c =
-    let node = granted c.is_node.ensures c.if-not-is_node.false in
-    at_false _ _ (fails_then node (denied c.is_new_path.ensures c.if-not-is_new_path.true))
 
 pub overflow_sub-missing : goal.overflow_sub-missing
 overflow_sub-missing c = depth_few _ _ _ c.deepest-there.ensures

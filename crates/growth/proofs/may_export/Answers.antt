@@ -1,34 +1,10 @@
 -- The tests of the arguments, and then those from the deepest node that is there. Assumes nothing.
 use mathlib.Core.Path.{◌∙◌}
 use native.Mathlib.Omega.{arith}
-use Rattle.refusals.proofs.Pick.{at_false, granted, denied}
-use Rattle.soundness.proofs.Nodes.{fails_first, fails_then, holds_both, node_has, also_node, no_node, node_held}
-use Rattle.growth.proofs.Laws.{no_name, name, path_few, front_few, depth_few, deepest_ends, export_on}
+use Rattle.refusals.proofs.Pick.{granted}
+use Rattle.soundness.proofs.Nodes.{holds_both, node_has, also_node, node_held}
+use Rattle.growth.proofs.Laws.{name, path_few, front_few, depth_few, deepest_ends, export_on}
 use Rattle.growth.proofs.may_export.Goals as goal
-
-pub returns-then-not-is_node : goal.returns-then-not-is_node
-returns-then-not-is_node c =
-    let no_node = denied c.is_node.ensures c.if-not-is_node.true in
-    at_false _ _ (fails_first _ (fails_first _ (fails_first _ no_node)))
-
-pub returns-then-nodes-wide : goal.returns-then-nodes-wide
-returns-then-nodes-wide c =
-    let scope = granted c.is_node.ensures c.if-not-is_node.false in
-    let no_other = no_node _ _ _ _ scope _ c.wide.ensures c.if-nodes-wide.true in
-    at_false _ _ (fails_first _ (fails_first _ (fails_then scope no_other)))
-
-pub returns-then-not-is_new_path : goal.returns-then-not-is_new_path
-returns-then-not-is_new_path c =
-    let scope = granted c.is_node.ensures c.if-not-is_node.false in
-    let nodes = holds_both scope (also_node _ _ _ _ scope _ c.wide.ensures c.if-nodes-wide.false) in
-    at_false _ _ (fails_first _ (fails_then nodes (denied c.is_new_path.ensures c.if-not-is_new_path.true)))
-
-pub returns-then-path-eq0 : goal.returns-then-path-eq0
-returns-then-path-eq0 c =
-    let scope = granted c.is_node.ensures c.if-not-is_node.false in
-    let nodes = holds_both scope (also_node _ _ _ _ scope _ c.wide.ensures c.if-nodes-wide.false) in
-    let ids = holds_both nodes (granted c.is_new_path.ensures c.if-not-is_new_path.false) in
-    at_false _ _ (fails_then ids (no_name _ c.if-path-eq0.true))
 
 pub overflow_sub-missing : goal.overflow_sub-missing
 overflow_sub-missing c =

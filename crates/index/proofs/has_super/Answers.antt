@@ -3,9 +3,6 @@ use mathlib.Core.Path.{sym, ◌∙◌}
 use Rattle.index.proofs.Laws as laws
 use Rattle.index.proofs.has_super.Goals as goal
 
-pub loop-i-init : goal.loop-i-init
-loop-i-init c = laws.super_all _ _
-
 pub returns-then-id_at-eq-SUPER : goal.returns-then-id_at-eq-SUPER
 returns-then-id_at-eq-SUPER c =
     sym (c.loop-i.invariant ∙ laws.super_here _ _ _ c.loop-i-test.true c.id_at.ensures c.if-id_at-eq-SUPER.true)

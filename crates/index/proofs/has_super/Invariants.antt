@@ -7,6 +7,3 @@ use Rattle.index.proofs.has_super.Given as goal
 
 abbrev pub invariant-loop-i : goal.invariant-loop-i
 invariant-loop-i l = has 0 (path_in l.ids l.count) ≡ has 0 (ids_from l.ids l.i (l.count - l.i))
-
-abbrev pub decreases-loop-i : goal.decreases-loop-i
-decreases-loop-i l = l.count - l.i

@@ -7,6 +7,3 @@ use Rattle.index.proofs.walk.Given as goal
 abbrev pub invariant-loop-i : goal.invariant-loop-i
 invariant-loop-i l =
     walk_by l.index l.links l.n (path_in l.ids l.count) l.s ≡ walk_by l.index l.links l.n (ids_from l.ids l.i (l.count - l.i)) l.at
-
-abbrev pub decreases-loop-i : goal.decreases-loop-i
-decreases-loop-i l = l.count - l.i

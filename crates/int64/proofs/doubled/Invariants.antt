@@ -1,9 +1,6 @@
--- `int64::doubled` meets its contract. Invariant: after i turns, w times 2 ^ i modulo 2 ^ 64. Each turn leaves fewer. Assumes nothing.
-use Rattle.std.proofs.Common.{◌≡◌, ◌-◌, ◌*◌, ◌%◌, ◌^◌, ◌≤◌}
+-- `int64::doubled` meets its contract. Invariant: after i turns, w times 2 ^ i modulo 2 ^ 64. Assumes nothing.
+use Rattle.std.proofs.Common.{◌≡◌, ◌*◌, ◌%◌, ◌^◌}
 use Rattle.int64.proofs.doubled.Given as goal
 
 abbrev pub invariant-loop-i : goal.invariant-loop-i
-invariant-loop-i l = (l.i ≤ l.n) × (l.v ≡ (l.w * 2 ^ l.i) % 2 ^ 64)
-
-abbrev pub decreases-loop-i : goal.decreases-loop-i
-decreases-loop-i l = l.n - l.i
+invariant-loop-i l = l.v ≡ (l.w * 2 ^ l.i) % 2 ^ 64

@@ -10,13 +10,14 @@ use Rattle.listing.proofs.fill.Goals as goal
 pub returns-then-tape-gt-LONGEST : goal.returns-then-tape-gt-LONGEST
 returns-then-tape-gt-LONGEST c =
     let args = c.args in
-    laid_same args.text.now 0 _ (too_long args.tape.now args.initial c.if-tape-gt-LONGEST.true) c.put_refused.ensures
+    laid_same args.text.now 0 _ (too_long args.tape.now args.initial c.if-tape-gt-LONGEST.true)
+    (rw c.number.ensures at c.put_refused.ensures)
 
 pub returns-then-initial-gt-SIZE : goal.returns-then-initial-gt-SIZE
 returns-then-initial-gt-SIZE c =
     let args = c.args in
     laid_same args.text.now 0 _ (too_high args.tape.now args.initial c.if-tape-gt-LONGEST.false c.if-initial-gt-SIZE.true)
-    c.put_refused-then-initial-gt-SIZE.ensures
+    (rw c.number-then-initial-gt-SIZE.ensures at c.put_refused-then-initial-gt-SIZE.ensures)
 
 pub slice_bounds-fill_laid-end : goal.slice_bounds-fill_laid-end
 slice_bounds-fill_laid-end c = sym (length-replicate {A = ℕ} max_tape 0)

@@ -8,21 +8,21 @@ use Rattle.record_lines.specs.Records.{said}
 use Rattle.listing.proofs.Listings.{laid_listed, laid_refused}
 use Rattle.listing.proofs.fill_laid.Goals as goal
 
-pub returns-in-Refused : goal.returns-in-Refused
-returns-in-Refused c =
+pub returns-in-Err : goal.returns-in-Err
+returns-in-Err c =
     let args = c.args in
     let tape = args.tape.now in
     let nodes = args.nodes.now in
-    let refuses = settled_refused c.in-Refused.is (layout_of tape args.initial (length nodes)) c.lay_out-settled.ensures.0 in
+    let refuses = settled_refused (layout_of tape args.initial (length nodes)) c.in-Err.ensures.0 in
     laid_same args.text.now 0 _ (ap said (laid_refused tape nodes args.initial c.requires.1 c.requires.2 refuses))
-    c.put_refused.ensures
+    (rw c.number.ensures at c.put_refused.ensures)
 
-pub returns-in-After : goal.returns-in-After
-returns-in-After c =
+pub returns-in-Ok : goal.returns-in-Ok
+returns-in-Ok c =
     let args = c.args in
     let tape = args.tape.now in
     let nodes = args.nodes.now in
-    let found = settled_after c.in-After.is (layout_of tape args.initial (length nodes)) c.lay_out-settled.ensures.0 in
+    let found = settled_after (layout_of tape args.initial (length nodes)) c.in-Ok.ensures.0 in
     laid_same args.text.now 0 _
-    (ap said (laid_listed tape nodes args.initial c.requires.1 c.requires.2 c.requires.0 found c.lay_out-settled.ensures.1))
+    (ap said (laid_listed tape nodes args.initial c.requires.1 c.requires.2 c.requires.0 found c.in-Ok.ensures.1))
     c.put_records.ensures

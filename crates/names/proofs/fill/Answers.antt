@@ -1,10 +1,11 @@
 -- What the search leaves. Assumes nothing.
-use mathlib.Core.Path.{refl, sym, ◌∙◌}
-use Prim.Native.Nat.{◌+◌, ◌≤◌, ◌<◌}
-use native.Mathlib.Omega.{arith}
-use lib.ListN.{length}
-use Rattle.names.proofs.Filling.{fill_start, few_names, few_scopes, fill_past, fill_last, fill_refused, fill_on}
-use Rattle.names.proofs.Nesting.{next_within}
+use mathlib.Core.Path.{refl, sym, ap, ◌∙◌, ◌≡◌}
+use Rattle.std.proofs.lemmas.Result.{err_from_is_err_and}
+use Rattle.refusals.specs.declared.Fault.{Fault}
+use Rattle.form.proofs.Faults.{refuses}
+use Rattle.form.proofs.Mapped.{mapped_err, mapped_ok}
+use Rattle.form.specs.Says.{fault_number}
+use Rattle.names.proofs.Filling.{fill_start, fill_past, fill_last, fill_refused, fill_on}
 use Rattle.names.proofs.fill.Goals as goal
 
 pub loop-at-init : goal.loop-at-init
@@ -14,45 +15,22 @@ pub returns-then-is_last : goal.returns-then-is_last
 returns-then-is_last c =
     fill_last c.loop-at.invariant c.record-rec.ensures (sym c.is_last.ensures ∙ c.if-is_last.true)
 
-pub fault_of-fault-requires : goal.fault_of-fault-requires
-fault_of-fault-requires c =
-    omega (arith, few_names c.loop-at.invariant)
-
-pub returns-then-fault-ne0 : goal.returns-then-fault-ne0
-returns-then-fault-ne0 c =
+pub returns-in_err-map_err : goal.returns-in_err-map_err
+returns-in_err-map_err c =
+    let why = mapped_err c.fault_of.result c.map_err.result _ c.map_err.ensures.cases _ c.in_err-map_err.was in
+    let made = why.2 in
+    let fault : Fault = record { why = why.0; at = c.loop-at.at } in
+    let is : c.in_err-map_err.field-0.0 ≡ fault = cc in
+    let out = err_from_is_err_and c.from_residual.result c.from_residual.ensures.1 in
     let not_last = sym c.is_last.ensures ∙ c.if-is_last.false in
-    fill_refused c.loop-at.invariant c.record-rec.ensures not_last c.fault_of-fault.ensures c.if-fault-ne0.true
-
-pub put-requires : goal.put-requires
-put-requires c =
-    let few = few_names c.loop-at.invariant in
-    (omega arith, omega (arith, c.loop-at.invariant.held.size))
-
-pub behind-walk-requires : goal.behind-walk-requires
-behind-walk-requires c =
-    let few = few_names c.loop-at.invariant in
-    (omega arith, omega (arith, few_scopes c.loop-at.invariant))
-
-pub overflow_add-at : goal.overflow_add-at
-overflow_add-at c = omega (
-  arith,
-  (let it : let tape = c.args.tape.now in (0 < length c.record-rec.result.now) × (c.loop-at.at + length c.record-rec.result.now ≤ length tape) = let not_last = sym c.is_last.ensures ∙ c.if-is_last.false in
-      next_within _ _ c.record-rec.ensures not_last c.loop-at-test.true in it).1,
-)
-
-pub loop-at-smaller : goal.loop-at-smaller
-loop-at-smaller c = omega (
-  arith,
-  (let it : let tape = c.args.tape.now in (0 < length c.record-rec.result.now) × (c.loop-at.at + length c.record-rec.result.now ≤ length tape) = let not_last = sym c.is_last.ensures ∙ c.if-is_last.false in
-      next_within _ _ c.record-rec.ensures not_last c.loop-at-test.true in it).0,
-  (let it : let tape = c.args.tape.now in (0 < length c.record-rec.result.now) × (c.loop-at.at + length c.record-rec.result.now ≤ length tape) = let not_last = sym c.is_last.ensures ∙ c.if-is_last.false in
-      next_within _ _ c.record-rec.ensures not_last c.loop-at-test.true in it).1,
-)
+    rw (out.1, out.2, is)
+    (fill_refused c.loop-at.invariant c.record-rec.ensures not_last (ap fault_number (sym why.1) ∙ c.fault_of.ensures) (refuses _))
 
 pub loop-at-preserved : goal.loop-at-preserved
 loop-at-preserved c =
+    let passed = mapped_ok c.fault_of.result c.map_err.result _ c.map_err.ensures.cases _ c.in_ok-map_err.was in
     let not_last = sym c.is_last.ensures ∙ c.if-is_last.false in
-    fill_on c.loop-at.invariant c.record-rec.ensures not_last c.fault_of-fault.ensures c.if-fault-ne0.false
+    fill_on c.loop-at.invariant c.record-rec.ensures not_last (ap fault_number (sym passed) ∙ c.fault_of.ensures) refl
     c.put.ensures c.behind-walk.ensures
 
 pub returns : goal.returns

@@ -26,6 +26,5 @@ returns c =
     let node = granted c.is_node.ensures c.if-not-is_node.false in
     let a = c.args in
     let here = ap (λ (es : List Edge). child_of es a.nx a.id) (node_held _ _ _ _ node) in
-    c.answer.ensures
-    ∙ ap Done (c.child.ensures ∙ here)
+    ap Done (c.child.ensures ∙ here)
     ∙ at_true _ _ (holds_both node (name _ c.if-id-eq-SUPER.false))

@@ -19,6 +19,5 @@ returns c =
     let node = granted c.is_node.ensures c.if-not-is_node.false in
     let a = c.args in
     let here = ap (λ (es : List Edge). parent_of es a.nx) (node_held _ _ _ _ node) in
-    c.answer.ensures
-    ∙ ap Done (c.parent.ensures ∙ here)
+    ap Done (c.parent.ensures ∙ here)
     ∙ passed _ _ c.is_node.ensures c.if-not-is_node.false

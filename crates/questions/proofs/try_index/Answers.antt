@@ -26,6 +26,5 @@ returns c =
     let node = granted c.is_node.ensures c.if-not-is_node.false in
     let a = c.args in
     let here = ap (λ (es : List Edge). walk_of es a.path.now a.nx) (node_held _ _ _ _ node) in
-    c.answer.ensures
-    ∙ ap Done (c.walk.ensures ∙ here)
+    ap Done (c.walk.ensures ∙ here)
     ∙ at_true _ _ (holds_both node (le-leb _ _ c.if-path-gt-LONGEST.false))

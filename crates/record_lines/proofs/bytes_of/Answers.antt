@@ -12,16 +12,15 @@ returns-then-is_inner c =
     bytes_inner args.place args.at args.rec.now (says_value args.value) c.is_inner.ensures c.if-is_inner.true
     c.no_bytes.ensures
 
-pub returns-in-Refused : goal.returns-in-Refused
-returns-in-Refused c =
+pub returns-in-Err : goal.returns-in-Err
+returns-in-Err c =
     let args = c.args in
     bytes_refused args.place args.at args.rec.now (says_value args.value) c.is_inner.ensures
-    c.if-is_inner.false (to_z_pos w64 (omega (arith, c.requires))) c.plain.ensures c.attempt.ensures
-    c.in-Refused.is c.no_bytes-in-Refused.ensures
+    c.if-is_inner.false (to_z_pos w64 (omega (arith, c.requires))) c.plain.ensures c.in-Err.ensures
+    c.no_bytes-in-Err.ensures
 
-pub returns-in-Bytes : goal.returns-in-Bytes
-returns-in-Bytes c =
+pub returns-in-Ok : goal.returns-in-Ok
+returns-in-Ok c =
     let args = c.args in
     bytes_fine args.place args.at args.rec.now (says_value args.value) c.is_inner.ensures
-    c.if-is_inner.false (to_z_pos w64 (omega (arith, c.requires))) c.plain.ensures c.attempt.ensures
-    c.in-Bytes.is
+    c.if-is_inner.false (to_z_pos w64 (omega (arith, c.requires))) c.plain.ensures c.in-Ok.ensures

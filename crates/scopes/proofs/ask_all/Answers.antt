@@ -1,8 +1,4 @@
 -- What the search leaves. Assumes nothing.
-use mathlib.Core.Path.{sym, ap, ◌∙◌}
-use mathlib.Core.List.{List}
-use Prim.Native.Nat.{ℕ}
-use lib.ListN.{length}
 use Rattle.edges.proofs.Laws.{reached_node, reached_none}
 use Rattle.soundness.proofs.Rooted.{chain_falls}
 use Rattle.scopes.proofs.All as all
@@ -14,12 +10,6 @@ loop-up-init c = all.ask_begins _ _ _ c.requires.0 c.requires.1
 pub noted-tally-requires : goal.noted-tally-requires
 noted-tally-requires c = all.ask_room _ _ _ c.loop-up.invariant
 
-pub shape_of-list-in_default : goal.shape_of-list-in_default
-shape_of-list-in_default c =
-    c.list-1.given
-    ∙ all.ask_length _ _ _ c.loop-up.invariant
-    ∙ sym (ap (λ (l : List ℕ). length l) c.requires.1)
-
 pub returns-in_default : goal.returns-in_default
 returns-in_default c =
     let top = reached_none c.parent.ensures c.in_default.is in
@@ -29,10 +19,10 @@ returns-in_default c =
 pub loop-up-smaller : goal.loop-up-smaller
 loop-up-smaller c =
     let ends = c.loop-up.invariant.ends in
-    chain_falls _ _ ends.1 ends.0 (reached_node c.parent.ensures c.in-At.is)
+    chain_falls _ _ ends.1 ends.0 (reached_node c.parent.ensures c.in-Some.is)
 
 pub loop-up-preserved : goal.loop-up-preserved
 loop-up-preserved c =
-    let up = reached_node c.parent.ensures c.in-At.is in
+    let up = reached_node c.parent.ensures c.in-Some.is in
     all.ask_up _ _ _ c.loop-up.invariant c.walk-reached.result c.walk-reached.ensures
     c.has_super-waits.ensures c.noted-tally.ensures up

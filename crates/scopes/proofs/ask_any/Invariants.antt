@@ -1,12 +1,8 @@
 -- What is left of the chain gives the answer of the whole. Each turn asks one node of it. Assumes nothing.
 use mathlib.Core.Path.{◌≡◌}
-use Prim.Native.Nat.{◌≤◌}
 use Rattle.edges.specs.Edges.{chain_of, query_on, query_of, held}
 use Rattle.scopes.proofs.ask_any.Given as goal
 
 abbrev pub invariant-loop-left : goal.invariant-loop-left
 invariant-loop-left l =
-    (l.left ≤ 1024) × (query_on (held l.links l.n) l.path (chain_of (held l.links l.n) l.left l.at) ≡ query_of (held l.links l.n) l.s l.path)
-
-abbrev pub decreases-loop-left : goal.decreases-loop-left
-decreases-loop-left l = l.left
+    query_on (held l.links l.n) l.path (chain_of (held l.links l.n) l.left l.at) ≡ query_of (held l.links l.n) l.s l.path

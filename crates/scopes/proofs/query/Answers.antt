@@ -29,6 +29,5 @@ returns c =
     let a = c.args in
     let node = granted c.is_node.ensures c.if-not-is_node.false in
     let here = ap (λ (es : List Edge). query_of es a.nx a.path.now) (node_held _ _ _ _ node) in
-    c.answer.ensures
-    ∙ ap Done (c.ask.ensures ∙ here)
+    ap Done (c.ask.ensures ∙ here)
     ∙ at_true _ _ (holds_both node (le-leb _ _ c.if-path-gt-LONGEST.false))

@@ -26,7 +26,7 @@ returns-then-list-ne-NODES c =
 
 pub ask_all-requires : goal.ask_all-requires
 ask_all-requires c =
-    let zeros = c.fill.ensures ∙ ap (λ (k : ℕ). replicate k 0) c.if-list-ne-NODES.false in
+    let zeros = c.fill.ensures.after (λ y e. e) ∙ ap (λ (k : ℕ). replicate k 0) c.if-list-ne-NODES.false in
     (ends_held _ _ _ _ (granted c.is_node.ensures c.if-not-is_node.false), zeros)
 
 pub returns : goal.returns

@@ -24,6 +24,5 @@ unfolding query_edges
 returns c =
     let a = c.args in
     let here = ap (λ (es : List Edge). query_of es a.nx a.path.now) (all_held _ _ c.if-n-gt-EDGES.false) in
-    c.answer.ensures
-    ∙ ap Done (c.ask_any.ensures ∙ here)
+    ap Done (c.ask_any.ensures ∙ here)
     ∙ at_true _ _ (holds_both (le-leb _ _ c.if-n-gt-EDGES.false) (le-leb _ _ c.if-path-gt-LONGEST.false))

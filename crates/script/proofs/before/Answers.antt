@@ -1,13 +1,9 @@
--- As many bytes as stand before the first mark, from the first on. Assumes nothing.
-use mathlib.Core.Path.{ap, ◌∙◌}
-use Prim.Native.Nat.{ℕ}
-use lib.ListN.{take}
-use Rattle.script.proofs.Scans.{take_until}
+-- There is no mark, or it stands here. Assumes nothing.
+use Rattle.script.proofs.Scans.{all_until, until_mark}
 use Rattle.script.proofs.before.Goals as goal
 
-pub returns : goal.returns
-returns c =
-    let args = c.args in
-    c.cut.ensures
-    ∙ ap (λ (n : ℕ). take n args.text.now) c.length_before.ensures
-    ∙ take_until args.mark args.text.now
+pub returns-in-None : goal.returns-in-None
+returns-in-None c = all_until c.args.mark c.args.text.now c.in-None.ensures
+
+pub returns-in-Some : goal.returns-in-Some
+returns-in-Some c = until_mark c.args.mark c.args.text.now c.in-Some.ensures

@@ -1,12 +1,8 @@
 -- What stands behind the marks that are left, from here on, is what stands behind all of them. Assumes nothing.
 use mathlib.Core.Path.{◌≡◌}
-use Prim.Native.Nat.{◌≤◌}
-use lib.ListN.{length, drop}
+use Prim.Native.Nat.{◌-◌}
 use Rattle.script.specs.Parts.{from}
 use Rattle.script.proofs.behind.Given as goal
 
-abbrev pub invariant-loop-left : goal.invariant-loop-left
-invariant-loop-left l = (l.at ≤ length l.text) × (from l.mark l.left (drop l.at l.text) ≡ from l.mark l.count l.text)
-
-abbrev pub decreases-loop-left : goal.decreases-loop-left
-decreases-loop-left l = l.left
+abbrev pub invariant-loop-i : goal.invariant-loop-i
+invariant-loop-i l = from l.mark (l.count - l.i) l.rest ≡ from l.mark l.count l.text

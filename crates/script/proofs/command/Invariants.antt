@@ -2,11 +2,7 @@
 use mathlib.Core.Path.{◌≡◌}
 use Prim.Native.Nat.{◌-◌}
 use Rattle.script.specs.Commands.{command_from}
-use Rattle.script.proofs.Choosing.{here}
 use Rattle.script.proofs.command.Given as goal
 
 abbrev pub invariant-loop-i : goal.invariant-loop-i
-invariant-loop-i l = here l.line l.names l.i l.count ≡ command_from l.line l.names 0 l.count
-
-abbrev pub decreases-loop-i : goal.decreases-loop-i
-decreases-loop-i l = l.count - l.i
+invariant-loop-i l = command_from l.line l.names l.i (l.count - l.i) ≡ command_from l.line l.names 0 l.count

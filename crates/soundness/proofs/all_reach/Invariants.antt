@@ -2,7 +2,6 @@
 -- marked is known. Assumes nothing.
 use mathlib.Core.List.{List}
 use mathlib.Core.Path.{◌≡◌}
-use Prim.Native.Nat.{◌-◌, ◌≤◌}
 use lib.ListN.{length}
 use Rattle.edges.specs.declared.Edge.{Edge}
 use Rattle.edges.specs.Edges.{max_nodes}
@@ -12,7 +11,4 @@ use Rattle.soundness.proofs.all_reach.Given as goal
 
 abbrev pub invariant-loop-s : goal.invariant-loop-s
 invariant-loop-s l =
-    (l.s ≤ l.nodes) × (length l.seen ≡ max_nodes) × ((es : List Edge) → Tells l.up es l.nodes → Reached es l.s l.seen)
-
-abbrev pub decreases-loop-s : goal.decreases-loop-s
-decreases-loop-s l = l.nodes - l.s
+    (length l.seen ≡ max_nodes) × ((es : List Edge) → Tells l.up es l.nodes → Reached es l.s l.seen)

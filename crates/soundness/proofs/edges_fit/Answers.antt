@@ -7,17 +7,15 @@ use Rattle.soundness.proofs.edges_fit.Goals as goal
 
 pub returns-then-not-edge_fits : goal.returns-then-not-edge_fits
 returns-then-not-edge_fits c =
-    let looked = c.loop-i in
     let more = c.loop-i-test.true in
     let bad = last_bad _ _ more (edge_here _ _ (omega arith) c.edge_at.ensures) c.edge_fits.ensures c.if-not-edge_fits.true in
-    sym (looked.invariant.1 ∙ bad)
+    sym (c.loop-i.invariant ∙ bad)
 
 pub loop-i-preserved : goal.loop-i-preserved
 loop-i-preserved c =
-    let looked = c.loop-i in
     let more = c.loop-i-test.true in
     let good = last_good _ _ more (edge_here _ _ (omega arith) c.edge_at.ensures) c.edge_fits.ensures c.if-not-edge_fits.false in
-    (omega arith, looked.invariant.1 ∙ good)
+    c.loop-i.invariant ∙ good
 
 pub returns : goal.returns
-returns c = sym (c.loop-i.invariant.1 ∙ no_edges _ _ _ c.loop-i-test.false)
+returns c = sym (c.loop-i.invariant ∙ no_edges _ _ _ c.loop-i-test.false)

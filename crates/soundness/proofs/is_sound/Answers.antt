@@ -1,24 +1,10 @@
 -- `soundness::is_sound` meets its contract: each test is one of the definition's. Assumes nothing.
 use mathlib.Core.Path.{refl, ◌∙◌}
 use native.Mathlib.Omega.{arith}
-use Rattle.refusals.proofs.Pick.{granted, denied}
+use Rattle.refusals.proofs.Pick.{granted}
 use Rattle.soundness.proofs.Chains.{fit_more}
-use Rattle.soundness.proofs.Sound.{small_parents, no_nodes, many_nodes, many_edges, bad_edges, good_edges}
+use Rattle.soundness.proofs.Sound.{small_parents, good_edges}
 use Rattle.soundness.proofs.is_sound.Goals as goal
-
-pub returns-then-nodes-lt1 : goal.returns-then-nodes-lt1
-returns-then-nodes-lt1 c = no_nodes _ _ _ c.if-nodes-lt1.true
-
-pub returns-then-nodes-gt-NODES : goal.returns-then-nodes-gt-NODES
-returns-then-nodes-gt-NODES c = many_nodes _ _ _ c.if-nodes-lt1.false c.if-nodes-gt-NODES.true
-
-pub returns-then-n-gt-EDGES : goal.returns-then-n-gt-EDGES
-returns-then-n-gt-EDGES c = many_edges _ _ _ c.if-nodes-lt1.false c.if-nodes-gt-NODES.false c.if-n-gt-EDGES.true
-
-pub returns-then-not-edges_fit : goal.returns-then-not-edges_fit
-returns-then-not-edges_fit c =
-    let bad = denied c.edges_fit.ensures c.if-not-edges_fit.true in
-    bad_edges _ _ _ c.if-nodes-lt1.false c.if-nodes-gt-NODES.false c.if-n-gt-EDGES.false bad
 
 pub parents-up-requires : goal.parents-up-requires
 parents-up-requires c =

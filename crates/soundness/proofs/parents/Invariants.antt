@@ -1,14 +1,10 @@
 -- `soundness::parents` meets its contract. The loop's invariant: the list has the parents by the edges before this one.
 -- Assumes nothing.
 use mathlib.Core.Path.{◌≡◌}
-use Prim.Native.Nat.{◌-◌, ◌≤◌}
 use lib.ListN.{length}
 use Rattle.edges.specs.Edges.{max_nodes, edges_in}
 use Rattle.soundness.specs.Steps.{Parents}
 use Rattle.soundness.proofs.parents.Given as goal
 
 abbrev pub invariant-loop-i : goal.invariant-loop-i
-invariant-loop-i l = (l.i ≤ l.n) × (length l.up ≡ max_nodes) × Parents l.up (edges_in l.links l.i)
-
-abbrev pub decreases-loop-i : goal.decreases-loop-i
-decreases-loop-i l = l.n - l.i
+invariant-loop-i l = (length l.up ≡ max_nodes) × Parents l.up (edges_in l.links l.i)

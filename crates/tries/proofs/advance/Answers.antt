@@ -1,48 +1,31 @@
 -- A record of an expression, a refusal, or bytes that are put. Assumes nothing.
-use mathlib.Core.Path.{sym, ap, ◌∙◌}
 use native.Mathlib.Omega.{arith}
 use mir.Syntax.{w64}
-use mir.Val.{to_z}
 use mir.Facts.{to_z_pos}
-use Rattle.symbols.specs.Says.{says_data}
-use Rattle.evaluator.specs.Says.{says_value}
-use Rattle.walk.specs.Numbers.{numbers_in}
-use Rattle.tries.specs.Write.{says_tried}
-use Rattle.tries.proofs.Advancing.{Handed, over_inner, over_refused, over_short, over_put}
+use Rattle.std.proofs.lemmas.Result.{err_from_is_err_and}
+use Rattle.tries.proofs.Advancing.{handed, over_inner, over_refused, over_short, over_put}
 use Rattle.tries.proofs.advance.Goals as goal
 
 pub returns-then-is_inner : goal.returns-then-is_inner
 returns-then-is_inner c =
     over_inner _ _ _ _ _ _ _ _ c.is_inner.ensures c.if-is_inner.true
 
+pub returns-in_err-code : goal.returns-in_err-code
+returns-in_err-code c =
+    let out = err_from_is_err_and c.from_residual.result c.from_residual.ensures.1 in
+    rw (out.1, out.2)
+    (over_refused (handed c.is_inner.ensures c.if-is_inner.false c.own_number-own.ensures (to_z_pos w64 (omega (arith, c.requires.0)))
+    c.value_of-value.ensures) _ _ _ _ c.in_err-code.ensures)
+
 pub put-requires : goal.put-requires
-put-requires c =
-    let passed = sym (ap says_tried c.in-Bytes.is) ∙ c.attempt.ensures in (
-      c.requires.0,
-      c.requires.1,
-      over_short (let it : let args = c.args in Handed args.tape.now args.nodes.now (numbers_in args.known.now args.number.now) args.walk args.at args.rec.now (says_data c.own_number-own.result) (to_z w64 args.walk.place) (says_value c.value_of-value.result) = record {
-        outer = sym c.is_inner.ensures ∙ c.if-is_inner.false;
-        own_is = c.own_number-own.ensures;
-        place_is = to_z_pos w64 (omega (arith, c.requires.0));
-        v_is = c.value_of-value.ensures;
-      } in it) c.args.compares _ passed,
-    )
+put-requires c = (
+  c.requires.0,
+  c.requires.1,
+  over_short (handed c.is_inner.ensures c.if-is_inner.false c.own_number-own.ensures (to_z_pos w64 (omega (arith, c.requires.0)))
+      c.value_of-value.ensures) _ _ c.in_ok-code.ensures,
+)
 
-pub returns-in-Refused : goal.returns-in-Refused
-returns-in-Refused c =
-    over_refused (let it : let args = c.args in Handed args.tape.now args.nodes.now (numbers_in args.known.now args.number.now) args.walk args.at args.rec.now (says_data c.own_number-own.result) (to_z w64 args.walk.place) (says_value c.value_of-value.result) = record {
-      outer = sym c.is_inner.ensures ∙ c.if-is_inner.false;
-      own_is = c.own_number-own.ensures;
-      place_is = to_z_pos w64 (omega (arith, c.requires.0));
-      v_is = c.value_of-value.ensures;
-    } in it) c.args.compares _ _ _ (sym (ap says_tried c.in-Refused.is) ∙ c.attempt.ensures)
-
-pub returns-in-Bytes : goal.returns-in-Bytes
-returns-in-Bytes c =
-    over_put (let it : let args = c.args in Handed args.tape.now args.nodes.now (numbers_in args.known.now args.number.now) args.walk args.at args.rec.now (says_data c.own_number-own.result) (to_z w64 args.walk.place) (says_value c.value_of-value.result) = record {
-      outer = sym c.is_inner.ensures ∙ c.if-is_inner.false;
-      own_is = c.own_number-own.ensures;
-      place_is = to_z_pos w64 (omega (arith, c.requires.0));
-      v_is = c.value_of-value.ensures;
-    } in it) c.args.compares _ _ (sym (ap says_tried c.in-Bytes.is) ∙ c.attempt.ensures)
-    c.u8_at.ensures c.put.ensures
+pub returns : goal.returns
+returns c =
+    over_put (handed c.is_inner.ensures c.if-is_inner.false c.own_number-own.ensures (to_z_pos w64 (omega (arith, c.requires.0)))
+    c.value_of-value.ensures) _ _ _ c.in_ok-code.ensures c.u8_at.ensures c.put.ensures

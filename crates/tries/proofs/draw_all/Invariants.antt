@@ -7,7 +7,7 @@ use Rattle.tries.proofs.draw_all.Given as goal
 
 abbrev pub invariant-loop-at : goal.invariant-loop-at
 invariant-loop-at l =
-    Going l.tape l.nodes (numbers_in l.known l.number) l.compares l.fn.initial l.initial.image l.image l.pen l.walk l.at
+    Going l.tape l.nodes (numbers_in l.numbers) l.compares l.fn.initial l.initial.image l.image l.pen l.walk l.at
 
 abbrev pub decreases-loop-at : goal.decreases-loop-at
 decreases-loop-at l = length l.tape - l.at

@@ -11,8 +11,7 @@ use Rattle.symbols.proofs.SymbolTable.update_data.Goals as goal
 pub returns-then-not-is_node : goal.returns-then-not-is_node
 unfolding update_data
 returns-then-not-is_node c =
-    let why = stopped _ _ c.is_node.ensures c.if-not-is_node.true in
-    c.unchanged.ensures ∙ ap (left c.args.self) why
+    ap (left c.args.self) (stopped _ _ c.is_node.ensures c.if-not-is_node.true)
 
 pub with_data-requires : goal.with_data-requires
 with_data-requires c =
@@ -23,6 +22,5 @@ pub returns : goal.returns
 unfolding update_data
 returns c =
     let so = passed _ _ c.is_node.ensures c.if-not-is_node.false in
-    c.done.ensures
-    ∙ ap (λ (t : SymbolTable). (t, Done tt)) c.with_data.ensures
+    ap (λ (t : SymbolTable). (t, Done tt)) c.with_data.ensures
     ∙ ap (left c.args.self) so

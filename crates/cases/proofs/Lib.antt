@@ -1,0 +1,2 @@
+-- The bytes of a tape that lines make.
+pub mod Tapes

@@ -1,6 +1,0 @@
--- What the search leaves. Assumes nothing.
-use mathlib.Core.Path.{refl}
-use Rattle.list_passes.proofs.put_counts.Goals as goal
-
-pub loop-pass-init : goal.loop-pass-init
-loop-pass-init c = refl

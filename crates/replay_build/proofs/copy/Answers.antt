@@ -1,6 +1,0 @@
--- What the search leaves. Assumes nothing.
-use mathlib.Core.Path.{refl}
-use Rattle.replay_build.proofs.copy.Goals as goal
-
-pub loop-i-init : goal.loop-i-init
-loop-i-init c = refl

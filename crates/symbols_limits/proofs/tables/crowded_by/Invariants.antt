@@ -1,9 +1,0 @@
--- `crowded_by` is safe and ends: each turn leaves fewer edges. Nothing has to hold from turn to turn. Assumes nothing.
-use Prim.Native.Nat.{◌-◌}
-use Rattle.symbols_limits.proofs.tables.crowded_by.Given as goal
-
-abbrev pub invariant-loop-i : goal.invariant-loop-i
-invariant-loop-i l = Unit {0}
-
-abbrev pub decreases-loop-i : goal.decreases-loop-i
-decreases-loop-i l = l.edges - l.i
