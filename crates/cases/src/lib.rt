@@ -48,7 +48,7 @@ pub fn ask_each<R: Print, F: FnMut(&R, &[u8], &[u8]) -> io::Result<()>, const N:
 }
 
 // As much of standard input as fits.
-pub fn read(room: &mut [u8]) -> &[u8] {
+fn read(room: &mut [u8]) -> &[u8] {
     let count = console::read(room);
     page::cut(room, count)
 }
