@@ -150,17 +150,17 @@ fn walk<'a>(tape: &'a [u8], nodes: &'a [u16], numbers: Numbers) -> Numbers {
         Ok(settled) => settled.numbers,
         Err(_) => nothing(),
     };
-    say_number(b": tap ", after, TAP);
-    say_number(b", gate ", after, GATE);
-    say_number(b", ticket ", after, TICKET);
-    say_number(b", fare ", after, FARE);
+    say_number(b": tap ", after[TAP as usize]);
+    say_number(b", gate ", after[GATE as usize]);
+    say_number(b", ticket ", after[TICKET as usize]);
+    say_number(b", fare ", after[FARE as usize]);
     after
 }
 
 // Says the number of a name.
-fn say_number(name: &[u8], numbers: Numbers, node: u8) {
+fn say_number(name: &[u8], number: Option<i64>) {
     say(name);
-    match numbers[node as usize] {
+    match number {
         Some(place) => say_place(place),
         None => say(b"unknown"),
     }

@@ -69,7 +69,7 @@ fn make_passes<'a>(
             return;
         };
         numbers = settled.numbers;
-        keep_pass(known, number, pass, numbers);
+        keep_pass(known, number, pass, &numbers);
     }
 }
 
@@ -79,7 +79,7 @@ fn nothing() -> Numbers {
 }
 
 // Keeps the numbers that a pass gave.
-fn keep_pass(known: &mut [bool], number: &mut [i64], pass: usize, numbers: Numbers) {
+fn keep_pass(known: &mut [bool], number: &mut [i64], pass: usize, numbers: &Numbers) {
     for node in 0..NODES {
         keep(
             known,
