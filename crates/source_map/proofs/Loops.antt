@@ -1,6 +1,6 @@
 -- What the loops over the entries keep: that which looks whether all are in range, that which looks for an address, and that
 -- which moves. Assumes nothing.
-use Rattle.std.specs.Prelude.{Option}
+use Rattle.std.specs.Prelude.{Option, None, Some}
 use mathlib.Core.Bool.{Bool, true, false, ◌&&◌, and-false}
 use mathlib.Core.Path.{◌≡◌, refl, sym, ap, ◌∙◌}
 use mathlib.Core.List.{List, [], ◌∷◌, map-append}
@@ -52,17 +52,29 @@ all_good m h e = λ k. h k && e k
 
 -- ---- which holds the address?
 
--- of the entries from number i on, all are in range, and `first` is the first of them that holds the address
-pub record Looked (m : List ℕ) (address n : ℕ) (first : Option Entry) (i : ℕ) : Type 0 where
+-- the entry of that number, if there is one
+abbrev pub said : List ℕ → Option ℕ → Option Entry
+said m None = None
+said m (Some j) = Some (entry_at m j)
+
+-- the number, if there is one, is below n
+abbrev pub Within : ℕ → Option ℕ → Type 0
+Within n None = Unit {0}
+Within n (Some j) = j < n
+
+-- of the entries from number i on, all are in range, and `first` is the number of the first of them that holds the address
+pub record Looked (m : List ℕ) (address n : ℕ) (first : Option ℕ) (i : ℕ) : Type 0 where
   pub range : all_in_range (rest m i n) ≡ true
-  pub found : first ≡ first_holding address (rest m i n)
+  pub within : Within n first
+  pub found : said m first ≡ first_holding address (rest m i n)
 
 -- all were looked at
-pub looked_all : (m : List ℕ) → shaped m ≡ true → (address : ℕ) (first : Option Entry) (i : ℕ) → i ≤ 0 → Looked m address (get_or m 0 0) first i → Done first ≡ address_to_offset m address
-looked_all m shaped-is address first i done looked =
+pub looked_all : (m : List ℕ) → shaped m ≡ true → (address : ℕ) (first : Option ℕ) (i : ℕ) → i ≤ 0 → Looked m address (get_or m 0 0) first i
+    → {answer : Option Entry} → answer ≡ said m first → Done answer ≡ address_to_offset m address
+looked_all m shaped-is address first i done looked answer-is =
     let none_left : i ≡ 0 = omega arith in
     let all : rest m i (get_or m 0 0) ≡ entries m = ap (λ (k : ℕ). rest m k (get_or m 0 0)) none_left ∙ rest_all m in
-    sym (of_map_lem m _ (all_good m shaped-is (ap all_in_range (sym all) ∙ looked.range)) ∙ ap Done (ap (first_holding address) (sym all) ∙ sym looked.found))
+    sym (of_map_lem m _ (all_good m shaped-is (ap all_in_range (sym all) ∙ looked.range)) ∙ ap Done (ap (first_holding address) (sym all) ∙ sym looked.found ∙ sym answer-is))
 
 -- ---- moving
 

@@ -104,10 +104,10 @@ pub fn address_to_offset(map: &[u32], pc: u32) -> Result<Option<Entry>, Refusal>
             return Err(Refusal::Argument);
         }
         if holds(offset, pc) {
-            first = Some(offset);
+            first = Some(i);
         }
     }
-    Ok(first)
+    Ok(first.map(|i| read_entry(map, i)))
 }
 
 // Gives every entry of one scope another scope and another span.

@@ -3,6 +3,7 @@ use mathlib.Core.Path.{sym}
 use native.Mathlib.Omega.{arith}
 use Rattle.source_map.specs.SourceMap.{entries, first_holding}
 use Rattle.refusals.specs.Answer.{Done}
+use Rattle.std.proofs.Common.{rules}
 use Rattle.refusals.proofs.Pick.{denied, granted}
 use Rattle.source_map.proofs.Laws.{no_map}
 use Rattle.source_map.proofs.Loops.{bad_entry, looked_all}
@@ -15,4 +16,4 @@ returns-then-not-is_in_range c =
     (bad_entry m _ (omega arith) c.read_entry-offset.ensures (denied c.is_in_range.ensures c.if-not-is_in_range.true)))
 
 pub returns : goal.returns
-returns c = looked_all _ (granted c.has_shape.ensures c.if-not-has_shape.false) _ _ _ (omega arith) c.loop-i.invariant
+returns c = looked_all _ (granted c.has_shape.ensures c.if-not-has_shape.false) _ _ _ (omega arith) c.loop-i.invariant (search rules)
