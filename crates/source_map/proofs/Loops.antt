@@ -6,11 +6,13 @@ use mathlib.Core.Path.{◌≡◌, refl, sym, ap, ◌∙◌}
 use mathlib.Core.List.{List, [], ◌∷◌, map-append}
 use Prim.Native.Nat.{ℕ, zero, suc, ◌+◌, ◌-◌, ◌*◌, ◌<◌, ◌≤◌}
 use native.Mathlib.Omega.{arith}
+use lib.Dec.{ltb}
 use lib.ListN.{length, get_or, length-map}
-use Rattle.refusals.specs.Answer.{Done}
+use borrow.Author.Tests.{lt-ltb, le-ltb}
+use Rattle.refusals.specs.Answer.{Done, pick}
 use Rattle.refusals.specs.Memory.{over}
 use Rattle.source_map.specs.declared.Entry.{Entry}
-use Rattle.source_map.specs.Entry.{in_range, moved, words_of, entry_at}
+use Rattle.source_map.specs.Entry.{in_range, holds, moved, words_of, entry_at}
 use Rattle.source_map.specs.SourceMap.{entries_from, entries, stored, all_in_range, shaped, sound, first_holding, address_to_offset, moved_all}
 use Rattle.source_map.proofs.Words.{length_entries, entries_more, holding, holding_more, entry_behind, count_kept}
 use Rattle.source_map.proofs.Laws.{shape, of_map_lem}
@@ -52,29 +54,44 @@ all_good m h e = λ k. h k && e k
 
 -- ---- which holds the address?
 
--- the entry of that number, if there is one
-abbrev pub said : List ℕ → Option ℕ → Option Entry
-said m None = None
-said m (Some j) = Some (entry_at m j)
+-- what `first` says: the entry of that number, or none if there is no such entry
+abbrev said : List ℕ → ℕ → ℕ → Option Entry
+said m n first = pick (ltb first n) (Some (entry_at m first)) None
 
--- the number, if there is one, is below n
-abbrev pub Within : ℕ → Option ℕ → Type 0
-Within n None = Unit {0}
-Within n (Some j) = j < n
-
--- of the entries from number i on, all are in range, and `first` is the number of the first of them that holds the address
-pub record Looked (m : List ℕ) (address n : ℕ) (first : Option ℕ) (i : ℕ) : Type 0 where
+-- of the entries from number i on, all are in range, and `first` says the first that holds the address
+pub record Looked (m : List ℕ) (address n first i : ℕ) : Type 0 where
   pub range : all_in_range (rest m i n) ≡ true
-  pub within : Within n first
-  pub found : said m first ≡ first_holding address (rest m i n)
+  pub found : said m n first ≡ first_holding address (rest m i n)
+
+-- one entry before them, in range: it is the first now, if it holds the address
+module _ (m : List ℕ) (address n first i j : ℕ) (before : suc j ≡ i) (below : i ≤ n) (looked : Looked m address n first i) {e : Entry} (is : e ≡ entry_at m j) where
+  now_first : (b : Bool) (w : ℕ) → holds address e ≡ b → w ≡ pick b j first → said m n w ≡ pick (holds address e) (Some e) (first_holding address (rest m i n))
+  now_first true w h w-is =
+      let there_is : w < n = omega arith in
+      simp (h, lt-ltb w n there_is) (ap Some (ap (entry_at m) w-is ∙ sym is))
+  now_first false w h w-is = simp (h) (ap (said m n) w-is ∙ looked.found)
+
+  pub looked_next : {w : ℕ} → in_range e ≡ true → w ≡ pick (holds address e) j first → Looked m address n w j
+  looked_next {w} good w-is =
+      let next = rest_next m j i n before below is in
+      record {
+        range = ap all_in_range next ∙ (λ k. good k && looked.range k);
+        found = now_first (holds address e) w refl w-is ∙ sym (ap (first_holding address) next);
+      }
 
 -- all were looked at
-pub looked_all : (m : List ℕ) → shaped m ≡ true → (address : ℕ) (first : Option ℕ) (i : ℕ) → i ≤ 0 → Looked m address (get_or m 0 0) first i
-    → {answer : Option Entry} → answer ≡ said m first → Done answer ≡ address_to_offset m address
-looked_all m shaped-is address first i done looked answer-is =
-    let none_left : i ≡ 0 = omega arith in
-    let all : rest m i (get_or m 0 0) ≡ entries m = ap (λ (k : ℕ). rest m k (get_or m 0 0)) none_left ∙ rest_all m in
-    sym (of_map_lem m _ (all_good m shaped-is (ap all_in_range (sym all) ∙ looked.range)) ∙ ap Done (ap (first_holding address) (sym all) ∙ sym looked.found ∙ sym answer-is))
+module _ (m : List ℕ) (shaped-is : shaped m ≡ true) (address first i : ℕ) (done : i ≤ 0) (looked : Looked m address (get_or m 0 0) first i) where
+  looked_all : address_to_offset m address ≡ Done (said m (get_or m 0 0) first)
+  looked_all =
+      let none_left : i ≡ 0 = omega arith in
+      let all : rest m i (get_or m 0 0) ≡ entries m = ap (λ (k : ℕ). rest m k (get_or m 0 0)) none_left ∙ rest_all m in
+      of_map_lem m _ (all_good m shaped-is (ap all_in_range (sym all) ∙ looked.range)) ∙ ap Done (ap (first_holding address) (sym all) ∙ sym looked.found)
+
+  pub found_one : {e : Entry} → first < get_or m 0 0 → e ≡ entry_at m first → Done (Some e) ≡ address_to_offset m address
+  found_one h e = sym (looked_all ∙ simp (lt-ltb first (get_or m 0 0) h, e))
+
+  pub found_none : get_or m 0 0 ≤ first → Done None ≡ address_to_offset m address
+  found_none h = sym (looked_all ∙ simp (le-ltb first (get_or m 0 0) h))
 
 -- ---- moving
 

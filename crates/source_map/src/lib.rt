@@ -5,7 +5,7 @@
 #![tactic(auto)]
 
 ghost use Rattle.std.specs.Prelude.{true, ◌≡◌, ◌+◌, ◌*◌, ◌≤◌, length};
-ghost use Rattle.refusals.specs.Answer.{outcome};
+ghost use Rattle.refusals.specs.Answer.{outcome, pick};
 ghost use Rattle.refusals.specs.Memory.{over};
 ghost use Rattle.refusals.specs.Says.{says};
 ghost use Rattle.source_map.specs.Entry.{entry_at, words_of, in_range, holds, moved};
@@ -88,8 +88,8 @@ pub fn add(map: &mut [u32], offset: Entry) -> Result<(), Refusal>
     Ok(())
 }
 
-// The first added entry whose bytes hold the address. One pass: it goes from the last entry to the first, so that the entry
-// that stays is the first, and tests on its way that the map is sound.
+// The first added entry whose bytes hold the address. One pass: it goes from the last entry to the first, so that the number
+// that stays is the first's (or the count, if none does), and tests on its way that the map is sound.
 pub fn address_to_offset(map: &[u32], pc: u32) -> Result<Option<Entry>, Refusal>
     ensures { says result ≡ address_to_offset map.now pc }
 {
@@ -97,17 +97,19 @@ pub fn address_to_offset(map: &[u32], pc: u32) -> Result<Option<Entry>, Refusal>
         return Err(Refusal::Argument);
     }
     let count = map[0] as usize;
-    let mut first = None;
+    let mut first = count;
     for i in (0..count).rev() {
         let offset = read_entry(map, i);
         if !is_in_range(offset) {
             return Err(Refusal::Argument);
         }
-        if holds(offset, pc) {
-            first = Some(i);
-        }
+        first = nearer(offset, pc, i, first);
     }
-    Ok(first.map(|i| read_entry(map, i)))
+    if first < count {
+        Ok(Some(read_entry(map, first)))
+    } else {
+        Ok(None)
+    }
 }
 
 // Gives every entry of one scope another scope and another span.
@@ -153,11 +155,18 @@ fn is_in_range(offset: Entry) -> bool
     offset.scope <= LAST_SCOPE && offset.pc <= SIZE && offset.len <= SIZE
 }
 
-// Whether the entry's bytes hold the address.
-fn holds(offset: Entry, pc: u32) -> bool
-    ensures { result ≡ holds pc offset }
+// The number i if the entry's bytes hold the address, else the other.
+fn nearer(offset: Entry, pc: u32, i: usize, other: usize) -> usize
+    ensures { result ≡ pick (holds pc offset) i other }
 {
-    offset.pc <= pc && pc - offset.pc < offset.len
+    if pc < offset.pc {
+        return other;
+    }
+    if pc - offset.pc < offset.len {
+        i
+    } else {
+        other
+    }
 }
 
 // The entry with the new scope and span, if it is of that scope.
