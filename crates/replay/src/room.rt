@@ -58,11 +58,14 @@ impl<T: Copy + Drop, const N: usize> Room<T, N> {
         self.len = end + more.len();
     }
 
-    // The same so often.
+    // The same so often; where a push changes nothing, no further one does.
     pub fn push_often(&mut self, more: &[T], times: usize)
         ensures { self.new ≡ joined_often N times more.now self.old }
     {
         for i in 0..times {
+            if more.is_empty() || N - self.len < more.len() {
+                return;
+            }
             self.push_all(more);
         }
     }

@@ -1,0 +1,2 @@
+-- Why the calls keep their promises.
+pub mod Pushing
