@@ -1,5 +1,5 @@
 // Items in fixed memory, one behind the other.
-ghost use Rattle.std.specs.Prelude.{ℕ, ◌≡◌, ◌≤◌, List, [], take};
+ghost use Rattle.std.specs.Prelude.{ℕ, ◌≡◌, ◌≤◌, List, [], set, take};
 ghost use Rattle.replay.specs.Room.{joined, joined_often};
 
 use std::marker::Model;
@@ -43,6 +43,15 @@ impl<T: Copy + Drop, const N: usize> Room<T, N> {
         ensures { self.new ≡ [] }
     {
         self.len = 0;
+    }
+
+    // Puts something in the place of the item at that index; past the items, nothing.
+    pub fn put(&mut self, at: usize, item: T)
+        ensures { self.new ≡ set self.old at item }
+    {
+        if at < self.len {
+            self.items[at] = item;
+        }
     }
 
     // Puts items behind the others, if they all have room.

@@ -40,17 +40,15 @@ fn checked(operation: u8, bytes: &[u8]) -> Result<(), Fault> {
     form::expression_form(bytes)
 }
 
-// What it gives of the first so many bytes of the tape, with another byte at an offset.
-fn checked_with(tape: &[u8], question: &[u8]) -> Result<(), Fault> {
-    let count = number_at(question, 2).min(tape.len()).min(ROOM);
-    let mut memory = [0u8; ROOM];
-    let bytes = &mut memory[..count];
-    bytes.copy_from_slice(&tape[..count]);
+// What it gives of the first so many bytes of the tape, with another byte at an offset for that time.
+fn checked_with(tape: &mut Room<u8, ROOM>, question: &[u8]) -> Result<(), Fault> {
     let at = number_at(question, 6);
-    if at < count {
-        bytes[at] = little::u8_at(question, 1);
-    }
-    checked(little::u8_at(question, 0), bytes)
+    let old = little::u8_at(tape.as_slice(), at);
+    tape.put(at, little::u8_at(question, 1));
+    let bytes = page::cut(tape.as_slice(), number_at(question, 2));
+    let verdict = checked(little::u8_at(question, 0), bytes);
+    tape.put(at, old);
+    verdict
 }
 
 // Puts the bytes of a question behind the tape.
@@ -60,7 +58,7 @@ fn append(tape: &mut Room<u8, ROOM>, question: &[u8]) {
 }
 
 // Prints what a question about the tape is answered.
-fn print_checked(rt: &impl Print, tape: &[u8], question: &[u8]) -> io::Result<()> {
+fn print_checked(rt: &impl Print, tape: &mut Room<u8, ROOM>, question: &[u8]) -> io::Result<()> {
     match checked_with(tape, question) {
         Ok(()) => print!(rt; "done"),
         Err(fault) => print!(rt; "{fault}"),
@@ -72,7 +70,7 @@ fn answer(rt: &impl Print, tape: &mut Room<u8, ROOM>, question: &[u8]) -> io::Re
     match little::u8_at(question, 0) {
         BEGIN => tape.clear(),
         APPEND => append(tape, question),
-        _ => return print_checked(rt, tape.as_slice(), question),
+        _ => return print_checked(rt, tape, question),
     }
     print!(rt; "done")
 }
