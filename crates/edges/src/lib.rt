@@ -120,7 +120,10 @@ pub fn walk(links: &[u16; WORDS], n: usize, s: u16, path: &[u16]) -> Option<u16>
 {
     let mut at = s;
     for x in path {
-        at = step(links, n, at, *x)?; // where the path breaks off, None
+        let Some(next) = step(links, n, at, *x) else {
+            return None; // the path breaks off
+        };
+        at = next;
     }
     Some(at)
 }

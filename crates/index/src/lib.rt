@@ -158,7 +158,10 @@ pub fn walk(
 {
     let mut at = s;
     for i in 0..count {
-        at = step(index, links, n, at, id_at(ids, i))?; // where the path breaks off, None
+        let Some(next) = step(index, links, n, at, id_at(ids, i)) else {
+            return None; // the path breaks off
+        };
+        at = next;
     }
     Some(at)
 }
