@@ -3,7 +3,7 @@
 #![tactic(auto)]
 
 ghost use Rattle.std.specs.Prelude.{◌≡◌, eqb, position};
-ghost use Rattle.script.specs.Parts.{until, behind, from, starts};
+ghost use Rattle.script.specs.Parts.{until, from, starts};
 ghost use Rattle.script.specs.Words.{lines_in, line_of, words_in, word_of, words_from};
 ghost use Rattle.script.specs.Numbers.{with_digit, with_letter, number_in, number_of};
 ghost use Rattle.script.specs.Commands.{is_command, command_of, is_silent};
@@ -46,25 +46,23 @@ fn before(text: &[u8], mark: u8) -> &[u8]
     }
 }
 
-// What stands behind the first mark.
-fn behind_one(text: &[u8], mark: u8) -> &[u8]
-    ensures { result.now ≡ behind mark text.now }
-{
-    match first(text, mark) {
-        None => &[],
-        Some(at) => &text[at + 1..],
-    }
-}
-
 // What stands behind so many marks.
 fn behind(text: &[u8], mark: u8, count: usize) -> &[u8]
     ensures { result.now ≡ from mark count text.now }
 {
-    let mut rest = text;
-    for i in 0..count {
-        rest = behind_one(rest, mark);
+    if count == 0 {
+        return text;
     }
-    rest
+    let mut left = count;
+    for (at, byte) in text.iter().enumerate() {
+        if *byte == mark {
+            left -= 1;
+            if left == 0 {
+                return &text[at + 1..];
+            }
+        }
+    }
+    &[]
 }
 
 // How many lines a text has.
