@@ -10,38 +10,42 @@ pub use made::Tape;
 use std::fmt::Display;
 use std::io;
 
+// What a program obeys lines with, and keeps from line to line.
+pub trait Obeys {
+    // Does what a line says.
+    fn obey(&mut self, rt: &impl Print, line: &[u8]) -> io::Result<()>;
+}
+
+// What a program asks about a tape with, and keeps from line to line.
+pub trait Asks {
+    // Asks about the tape what a line says.
+    fn ask(&mut self, rt: &impl Print, line: &[u8], tape: &[u8]) -> io::Result<()>;
+}
+
 // Obeys each line that comes in on standard input, as far as the memory for all of them goes, but the empty ones and the comments.
-pub fn obey_each<R: Print, F: FnMut(&R, &[u8]) -> io::Result<()>>(
-    rt: &R,
-    room: &mut [u8],
-    mut obey: F,
-) -> io::Result<()>
-    requires { F.IsAlwaysCallable obey }
-{
+pub fn obey_each(rt: &impl Print, room: &mut [u8], obeys: &mut impl Obeys) -> io::Result<()> {
     let text = read(room);
     for i in 0..script::lines(text) {
         let line = script::line(text, i);
         if !script::is_silent(line) {
-            obey(rt, line)?;
+            obeys.obey(rt, line)?;
         }
     }
     Ok(())
 }
 
 // The same of lines that make a tape or ask about it: asks what each line does that does not make it.
-pub fn ask_each<R: Print, F: FnMut(&R, &[u8], &[u8]) -> io::Result<()>, const N: usize>(
-    rt: &R,
+pub fn ask_each<const N: usize>(
+    rt: &impl Print,
     room: &mut [u8],
     tape: &mut Tape<N>,
-    mut ask: F,
-) -> io::Result<()>
-    requires { F.IsAlwaysCallable ask }
-{
+    asks: &mut impl Asks,
+) -> io::Result<()> {
     let text = read(room);
     for i in 0..script::lines(text) {
         let line = script::line(text, i);
         if !script::is_silent(line) && !tape.is_made(line) {
-            ask(rt, line, tape.as_slice())?;
+            asks.ask(rt, line, tape.as_slice())?;
         }
     }
     Ok(())

@@ -21,20 +21,24 @@ const REST: usize = 6;
 // How many numbers four bytes tell apart.
 const FOUR_BYTES: u64 = 0x1_0000_0000;
 
+// What a program answers questions with, and keeps from question to question.
+pub trait Answers {
+    // Prints the answer to a question.
+    fn answer(&mut self, rt: &impl Print, question: &[u8]) -> io::Result<()>;
+}
+
 // Answers each question that comes in on standard input, as long as the memory for it, and ends the line behind each answer; until there
 // is no whole question, or the output is closed.
-pub fn answer_each<R: Print, F: FnMut(&R, &[u8]) -> io::Result<()>>(
-    rt: &R,
+pub fn answer_each(
+    rt: &impl Print,
     question: &mut [u8],
-    mut answer: F,
-) -> io::Result<()>
-    requires { F.IsAlwaysCallable answer }
-{
+    answers: &mut impl Answers,
+) -> io::Result<()> {
     for _ in 0..u64::MAX {
         if console::read(question) < question.len() {
             return Ok(());
         }
-        answer(rt, question)?;
+        answers.answer(rt, question)?;
         println!(rt;)?;
     }
     Ok(())

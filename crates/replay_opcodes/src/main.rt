@@ -4,6 +4,7 @@
 
 use console::Console;
 use opcodes::Code;
+use replay::Answers;
 use std::io;
 
 // How many bytes a question has.
@@ -19,21 +20,23 @@ fn print_code(rt: &impl Print, code: Code) -> io::Result<()> {
     }
 }
 
-// Prints the answer to a question.
-fn answer(rt: &impl Print, question: &[u8]) -> io::Result<()> {
-    let mnemonic = little::u8_at(question, 0);
-    let mode = little::u8_at(question, 1);
-    let suffix = little::u8_at(question, 2);
-    match opcodes::encode(mnemonic, mode, suffix, little::i64_at(question, 3)) {
-        Ok(code) => print_code(rt, code),
-        Err(_) => print!(rt; "refused"),
+// Nothing is kept from question to question.
+#[derive(Drop)]
+struct Replay;
+
+impl Answers for Replay {
+    // Prints the answer to a question.
+    fn answer(&mut self, rt: &impl Print, question: &[u8]) -> io::Result<()> {
+        let mnemonic = little::u8_at(question, 0);
+        let mode = little::u8_at(question, 1);
+        let suffix = little::u8_at(question, 2);
+        match opcodes::encode(mnemonic, mode, suffix, little::i64_at(question, 3)) {
+            Ok(code) => print_code(rt, code),
+            Err(_) => print!(rt; "refused"),
+        }
     }
 }
 
 fn main() {
-    let _ = replay::answer_each(
-        &Console,
-        &mut [0u8; QUESTION],
-        |rt, question| answer(rt, question),
-    );
+    let _ = replay::answer_each(&Console, &mut [0u8; QUESTION], &mut Replay);
 }
