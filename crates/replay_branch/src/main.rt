@@ -3,23 +3,26 @@
 #![tactic(auto)]
 
 use console::Console;
+use replay::Answers;
 use std::io;
 
 // How many bytes a question has.
 const QUESTION: usize = 16;
 
-// Prints the answer to a question.
-fn answer(rt: &impl Print, question: &[u8]) -> io::Result<()> {
-    match branch::distance_of(little::i64_at(question, 0), little::i64_at(question, 8)) {
-        Ok(byte) => print!(rt; "{byte:02X}"),
-        Err(_) => print!(rt; "refused"),
+// Nothing is kept from question to question.
+#[derive(Drop)]
+struct Replay;
+
+impl Answers for Replay {
+    // Prints the answer to a question.
+    fn answer(&mut self, rt: &impl Print, question: &[u8]) -> io::Result<()> {
+        match branch::distance_of(little::i64_at(question, 0), little::i64_at(question, 8)) {
+            Ok(byte) => print!(rt; "{byte:02X}"),
+            Err(_) => print!(rt; "refused"),
+        }
     }
 }
 
 fn main() {
-    let _ = replay::answer_each(
-        &Console,
-        &mut [0u8; QUESTION],
-        |rt, question| answer(rt, question),
-    );
+    let _ = replay::answer_each(&Console, &mut [0u8; QUESTION], &mut Replay);
 }

@@ -6,6 +6,7 @@
 use console::Console;
 use inverse::Instruction;
 use refusals::Refusal;
+use replay::Answers;
 use std::io;
 
 // How many bytes a question has.
@@ -29,18 +30,20 @@ fn decode(question: &[u8]) -> Result<Instruction, Refusal> {
     }
 }
 
-// Prints the answer to a question.
-fn answer(rt: &impl Print, question: &[u8]) -> io::Result<()> {
-    match decode(question) {
-        Ok(instruction) => print_instruction(rt, instruction),
-        Err(why) => print!(rt; "{why}"),
+// Nothing is kept from question to question.
+#[derive(Drop)]
+struct Replay;
+
+impl Answers for Replay {
+    // Prints the answer to a question.
+    fn answer(&mut self, rt: &impl Print, question: &[u8]) -> io::Result<()> {
+        match decode(question) {
+            Ok(instruction) => print_instruction(rt, instruction),
+            Err(why) => print!(rt; "{why}"),
+        }
     }
 }
 
 fn main() {
-    let _ = replay::answer_each(
-        &Console,
-        &mut [0u8; QUESTION],
-        |rt, question| answer(rt, question),
-    );
+    let _ = replay::answer_each(&Console, &mut [0u8; QUESTION], &mut Replay);
 }

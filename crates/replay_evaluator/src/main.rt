@@ -5,6 +5,7 @@
 
 use console::Console;
 use refusals::Refusal;
+use replay::Answers;
 use std::io;
 
 // How many bytes a question has.
@@ -22,23 +23,25 @@ fn evaluate(operation: u8, a: i64, b: i64) -> Result<i64, Refusal> {
     }
 }
 
-// Prints the answer to a question.
-fn answer(rt: &impl Print, question: &[u8]) -> io::Result<()> {
-    let operation = little::u8_at(question, 0);
-    match evaluate(
-        operation,
-        little::i64_at(question, 1),
-        little::i64_at(question, 9),
-    ) {
-        Ok(z) => print!(rt; "{z}"),
-        Err(_) => print!(rt; "refused"),
+// Nothing is kept from question to question.
+#[derive(Drop)]
+struct Replay;
+
+impl Answers for Replay {
+    // Prints the answer to a question.
+    fn answer(&mut self, rt: &impl Print, question: &[u8]) -> io::Result<()> {
+        let operation = little::u8_at(question, 0);
+        match evaluate(
+            operation,
+            little::i64_at(question, 1),
+            little::i64_at(question, 9),
+        ) {
+            Ok(z) => print!(rt; "{z}"),
+            Err(_) => print!(rt; "refused"),
+        }
     }
 }
 
 fn main() {
-    let _ = replay::answer_each(
-        &Console,
-        &mut [0u8; QUESTION],
-        |rt, question| answer(rt, question),
-    );
+    let _ = replay::answer_each(&Console, &mut [0u8; QUESTION], &mut Replay);
 }

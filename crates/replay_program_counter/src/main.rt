@@ -6,6 +6,7 @@
 use console::Console;
 use program_counter::{ProgramCounter, Range};
 use refusals::Refusal;
+use replay::Answers;
 use std::fmt::Display;
 use std::io;
 
@@ -44,26 +45,28 @@ fn print_range(rt: &impl Print, answer: Result<Range, Refusal>) -> io::Result<()
     }
 }
 
-// Prints the answer to a question.
-fn answer(rt: &impl Print, question: &[u8]) -> io::Result<()> {
-    let a = little::u64_at(question, 1) as usize;
-    let b = little::u64_at(question, 9) as usize;
-    let pc = ProgramCounter(a);
-    match little::u8_at(question, 0) {
-        0 => print_place(rt, ProgramCounter::new(a)),
-        1 => print_place(rt, pc.add(b)),
-        2 => print_place(rt, pc.sub(b)),
-        3 => print_number(rt, pc.as_u16()),
-        4 => print_bytes(rt, pc.to_le_bytes()),
-        5 => print_number(rt, pc.as_i64()),
-        _ => print_range(rt, pc.as_empty_range()),
+// Nothing is kept from question to question.
+#[derive(Drop)]
+struct Replay;
+
+impl Answers for Replay {
+    // Prints the answer to a question.
+    fn answer(&mut self, rt: &impl Print, question: &[u8]) -> io::Result<()> {
+        let a = little::u64_at(question, 1) as usize;
+        let b = little::u64_at(question, 9) as usize;
+        let pc = ProgramCounter(a);
+        match little::u8_at(question, 0) {
+            0 => print_place(rt, ProgramCounter::new(a)),
+            1 => print_place(rt, pc.add(b)),
+            2 => print_place(rt, pc.sub(b)),
+            3 => print_number(rt, pc.as_u16()),
+            4 => print_bytes(rt, pc.to_le_bytes()),
+            5 => print_number(rt, pc.as_i64()),
+            _ => print_range(rt, pc.as_empty_range()),
+        }
     }
 }
 
 fn main() {
-    let _ = replay::answer_each(
-        &Console,
-        &mut [0u8; QUESTION],
-        |rt, question| answer(rt, question),
-    );
+    let _ = replay::answer_each(&Console, &mut [0u8; QUESTION], &mut Replay);
 }

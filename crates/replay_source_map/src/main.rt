@@ -6,6 +6,7 @@
 
 use console::Console;
 use refusals::Refusal;
+use replay::Answers;
 use source_map::Entry;
 use std::io;
 
@@ -60,31 +61,39 @@ fn number_at(question: &[u8], at: usize) -> u32 {
     (little::u64_at(question, at) % 0x1_0000_0000) as u32
 }
 
-// Prints the answer to a question.
-fn answer(rt: &impl Print, map: &mut [u32], question: &[u8]) -> io::Result<()> {
-    let a = number_at(question, 1);
-    let b = number_at(question, 5);
-    let c = number_at(question, 9);
-    let added = Entry {
-        scope: a,
-        span: b,
-        pc: c,
-        len: number_at(question, 13),
-    };
-    match little::u8_at(question, 0) {
-        0 | 2 => print_done(rt, source_map::clear(map)),
-        1 => print_done(rt, source_map::add(map, added)),
-        3 => print_done(rt, source_map::move_offsets(map, a, b, c)),
-        4 => print_found(rt, source_map::address_to_offset(map, a)),
-        5 => print_count(rt, source_map::len(map)),
-        _ => print_one(rt, source_map::entry_at(map, a as usize)),
+// Every script has the same map, which `new` only clears.
+#[derive(Drop)]
+struct Replay {
+    map: [u32; source_map::WORDS],
+}
+
+impl Answers for Replay {
+    // Prints the answer to a question.
+    fn answer(&mut self, rt: &impl Print, question: &[u8]) -> io::Result<()> {
+        let map = &mut self.map;
+        let a = number_at(question, 1);
+        let b = number_at(question, 5);
+        let c = number_at(question, 9);
+        let added = Entry {
+            scope: a,
+            span: b,
+            pc: c,
+            len: number_at(question, 13),
+        };
+        match little::u8_at(question, 0) {
+            0 | 2 => print_done(rt, source_map::clear(map)),
+            1 => print_done(rt, source_map::add(map, added)),
+            3 => print_done(rt, source_map::move_offsets(map, a, b, c)),
+            4 => print_found(rt, source_map::address_to_offset(map, a)),
+            5 => print_count(rt, source_map::len(map)),
+            _ => print_one(rt, source_map::entry_at(map, a as usize)),
+        }
     }
 }
 
-// Every script has the same map, which `new` only clears.
 fn main() {
-    let mut map = [0u32; source_map::WORDS];
-    let _ = replay::answer_each(&Console, &mut [0u8; QUESTION], |rt, question| {
-        answer(rt, &mut map, question)
-    });
+    let mut replay = Replay {
+        map: [0; source_map::WORDS],
+    };
+    let _ = replay::answer_each(&Console, &mut [0u8; QUESTION], &mut replay);
 }
