@@ -12,6 +12,7 @@ use console::Console;
 use pen::{Pen, SIZE};
 use program_counter::{ProgramCounter, Range};
 use refusals::Refusal;
+use replay::Answers;
 use std::io;
 
 // How many bytes a question has.
@@ -177,23 +178,44 @@ fn number_at(question: &[u8], at: usize) -> usize {
 }
 
 // Every script writes into one image, whatever the last one left there, and the lent pen into a second.
-fn main() {
-    let mut image = [0u8; SIZE];
-    let mut lent_image = [0u8; SIZE];
-    let mut bytes = [0u8; BYTES];
-    fill(&mut bytes);
-    let mut pen = pen::begin(0, 0);
-    let _ = replay::answer_each(&Console, &mut [0u8; QUESTION], |rt, question| {
+#[derive(Drop)]
+struct Replay {
+    pen: Pen,
+    image: [u8; SIZE],
+    lent_image: [u8; SIZE],
+    bytes: [u8; BYTES],
+}
+
+impl Answers for Replay {
+    // Prints the answer to a question.
+    fn answer(&mut self, rt: &impl Print, question: &[u8]) -> io::Result<()> {
         let operation = little::u8_at(question, 0);
         if EMIT < operation {
-            return tell(rt, operation, pen, &image, &lent_image);
+            return tell(rt, operation, self.pen, &self.image, &self.lent_image);
         }
         let asked = Asked {
             operation,
             a: number_at(question, 1),
             b: number_at(question, 5),
-            bytes: &bytes,
+            bytes: &self.bytes,
         };
-        move_on(rt, asked, &mut pen, &mut image, &mut lent_image)
-    });
+        move_on(
+            rt,
+            asked,
+            &mut self.pen,
+            &mut self.image,
+            &mut self.lent_image,
+        )
+    }
+}
+
+fn main() {
+    let mut replay = Replay {
+        pen: pen::begin(0, 0),
+        image: [0; SIZE],
+        lent_image: [0; SIZE],
+        bytes: [0; BYTES],
+    };
+    fill(&mut replay.bytes);
+    let _ = replay::answer_each(&Console, &mut [0u8; QUESTION], &mut replay);
 }

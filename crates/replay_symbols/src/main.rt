@@ -8,6 +8,7 @@
 
 use console::Console;
 use refusals::Refusal;
+use replay::Answers;
 use std::io;
 use symbols::{Inserted, SymbolTable};
 
@@ -97,10 +98,23 @@ fn answer(rt: &impl Print, table: &mut SymbolTable, asked: Asked) -> io::Result<
     }
 }
 
-fn main() {
-    let mut table = SymbolTable::new();
-    let _ = replay::answer_each(&Console, &mut [0u8; QUESTION], |rt, question| {
+// The table, which is kept from question to question.
+#[derive(Drop)]
+struct Replay {
+    table: SymbolTable,
+}
+
+impl Answers for Replay {
+    // Prints the answer to the question of these bytes.
+    fn answer(&mut self, rt: &impl Print, question: &[u8]) -> io::Result<()> {
         let ids = [6, 8, 10, 12].map(|at| little::u16_at(question, at));
-        answer(rt, &mut table, Asked::new(question, &ids))
-    });
+        answer(rt, &mut self.table, Asked::new(question, &ids))
+    }
+}
+
+fn main() {
+    let mut replay = Replay {
+        table: SymbolTable::new(),
+    };
+    let _ = replay::answer_each(&Console, &mut [0u8; QUESTION], &mut replay);
 }
