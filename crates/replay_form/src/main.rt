@@ -6,6 +6,7 @@
 
 use console::Console;
 use refusals::Fault;
+use replay::Answers;
 use replay::room::Room;
 use std::io;
 
@@ -75,9 +76,20 @@ fn answer(rt: &impl Print, tape: &mut Room<u8, ROOM>, question: &[u8]) -> io::Re
     print!(rt; "done")
 }
 
+// The tape, which is kept from question to question.
+#[derive(Drop)]
+struct Replay {
+    tape: Room<u8, ROOM>,
+}
+
+impl Answers for Replay {
+    // Prints the answer to a question.
+    fn answer(&mut self, rt: &impl Print, question: &[u8]) -> io::Result<()> {
+        answer(rt, &mut self.tape, question)
+    }
+}
+
 fn main() {
-    let mut tape = Room::new(0);
-    let _ = replay::answer_each(&Console, &mut [0u8; QUESTION], |rt, question| {
-        answer(rt, &mut tape, question)
-    });
+    let mut replay = Replay { tape: Room::new(0) };
+    let _ = replay::answer_each(&Console, &mut [0u8; QUESTION], &mut replay);
 }
