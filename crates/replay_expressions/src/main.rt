@@ -7,6 +7,7 @@
 #![tactic(auto)]
 
 use console::Console;
+use replay::Answers;
 use replay::room::Room;
 use std::io;
 use symbols::SymbolTable;
@@ -92,10 +93,24 @@ fn answer(
     Ok(())
 }
 
+// The table and an unfinished expression.
+#[derive(Drop)]
+struct Replay {
+    table: SymbolTable,
+    expression: Room<u8, ROOM>,
+}
+
+impl Answers for Replay {
+    // Prints the answer to a question about them.
+    fn answer(&mut self, rt: &impl Print, question: &[u8]) -> io::Result<()> {
+        answer(rt, &mut self.table, &mut self.expression, question)
+    }
+}
+
 fn main() {
-    let mut table = SymbolTable::new();
-    let mut expression = Room::new(0);
-    let _ = replay::answer_each(&Console, &mut [0u8; QUESTION], |rt, question| {
-        answer(rt, &mut table, &mut expression, question)
-    });
+    let mut replay = Replay {
+        table: SymbolTable::new(),
+        expression: Room::new(0),
+    };
+    let _ = replay::answer_each(&Console, &mut [0u8; QUESTION], &mut replay);
 }
