@@ -2,7 +2,7 @@
 // each case. The expected answers stand in stdout, and were written from document 01.
 #![tactic(auto)]
 
-use cases::Tape;
+use cases::{Asks, Tape};
 use console::Console;
 use std::io;
 use symbols::SymbolTable;
@@ -12,13 +12,19 @@ const CASES: usize = 65536;
 
 const TAPE: usize = 65537;
 
-// Asks about the tape as a line says.
-fn ask(rt: &impl Print, line: &[u8], tape: &[u8]) -> io::Result<()> {
-    match script::command(line, b"form expression value") {
-        0 => form(rt, line, tape),
-        1 => expression(rt, line, tape),
-        2 => value(rt, line, tape),
-        _ => cases::tell(rt, line),
+// Nothing is kept from line to line.
+#[derive(Drop)]
+struct Run;
+
+impl Asks for Run {
+    // Asks about the tape as a line says.
+    fn ask(&mut self, rt: &impl Print, line: &[u8], tape: &[u8]) -> io::Result<()> {
+        match script::command(line, b"form expression value") {
+            0 => form(rt, line, tape),
+            1 => expression(rt, line, tape),
+            2 => value(rt, line, tape),
+            _ => cases::tell(rt, line),
+        }
     }
 }
 
@@ -57,6 +63,6 @@ fn main() {
         &Console,
         &mut [0u8; CASES],
         &mut Tape::<TAPE>::new(),
-        |rt, line, tape| ask(rt, line, tape),
+        &mut Run,
     );
 }
