@@ -6,8 +6,8 @@
 
 use builder::Built;
 use console::Console;
-use replay::Asked;
 use replay::room::Room;
+use replay::{Answers, Asked};
 use std::io;
 use symbols::NODES;
 
@@ -43,33 +43,45 @@ fn build(
     }
 }
 
-// Answers a question.
-fn answer(
-    rt: &impl Print,
-    question: &[u8],
-    tape: &mut Room<u8, ROOM>,
-    image: &mut [u8],
-    list: &mut [i64],
-    work: &mut [u16],
-) -> io::Result<()> {
-    let asked = Asked::new(question);
-    if asked.operation == MORE {
-        tape.push_often(asked.piece(), asked.number);
-        return print!(rt; "done");
-    }
-    tape.push_all(asked.piece());
-    build(rt, tape.as_slice(), asked.number, image, list, work)?;
-    tape.clear();
-    Ok(())
+// The tape, and memory that is lent to one build after the other, as each leaves it.
+#[derive(Drop)]
+struct Replay {
+    tape: Room<u8, ROOM>,
+    image: [u8; builder::SIZE],
+    list: [i64; NODES],
+    work: [u16; builder::WORK],
 }
 
-// The tape begins with no bytes. Memory is lent to one build after the other, as each leaves it.
+impl Answers for Replay {
+    // Answers a question.
+    fn answer(&mut self, rt: &impl Print, question: &[u8]) -> io::Result<()> {
+        let asked = Asked::new(question);
+        if asked.operation == MORE {
+            self.tape.push_often(asked.piece(), asked.number);
+            return print!(rt; "done");
+        }
+        self.tape.push_all(asked.piece());
+        let tape = self.tape.as_slice();
+        build(
+            rt,
+            tape,
+            asked.number,
+            &mut self.image,
+            &mut self.list,
+            &mut self.work,
+        )?;
+        self.tape.clear();
+        Ok(())
+    }
+}
+
+// The tape begins with no bytes.
 fn main() {
-    let mut tape = Room::<u8, ROOM>::new(0);
-    let mut image = [0u8; builder::SIZE];
-    let mut list = [0i64; NODES];
-    let mut work = [0u16; builder::WORK];
-    let _ = replay::answer_each(&Console, &mut [0u8; QUESTION], |rt, question| {
-        answer(rt, question, &mut tape, &mut image, &mut list, &mut work)
-    });
+    let mut replay = Replay {
+        tape: Room::new(0),
+        image: [0; builder::SIZE],
+        list: [0; NODES],
+        work: [0; builder::WORK],
+    };
+    let _ = replay::answer_each(&Console, &mut [0u8; QUESTION], &mut replay);
 }
