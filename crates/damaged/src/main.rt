@@ -10,7 +10,7 @@ mod judge;
 mod tally;
 mod trial;
 
-use cases::Tape;
+use cases::{Asks, Tape};
 use console::Console;
 use std::io;
 use trial::Trial;
@@ -20,14 +20,16 @@ const CASES: usize = 65536;
 
 const ROOM: usize = 2048;
 
-// Damages something sound.
-fn damage(rt: &impl Print, line: &[u8], sound: &[u8], trial: &mut Trial) -> io::Result<()> {
-    match script::command(line, b"as-expression as-tape") {
-        0 => trial.damage(sound, false),
-        1 => trial.damage(sound, true),
-        _ => return cases::tell(rt, line),
+impl Asks for Trial {
+    // Damages something sound.
+    fn ask(&mut self, rt: &impl Print, line: &[u8], sound: &[u8]) -> io::Result<()> {
+        match script::command(line, b"as-expression as-tape") {
+            0 => self.damage(sound, false),
+            1 => self.damage(sound, true),
+            _ => return cases::tell(rt, line),
+        }
+        Ok(())
     }
-    Ok(())
 }
 
 fn main() {
@@ -36,7 +38,7 @@ fn main() {
         &Console,
         &mut [0u8; CASES],
         &mut Tape::<ROOM>::new(),
-        |rt, line, sound| damage(rt, line, sound, &mut trial),
+        &mut trial,
     );
     let _ = trial.print(&Console);
 }

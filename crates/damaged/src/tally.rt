@@ -6,7 +6,7 @@ use std::io;
 const NUMBERS: usize = 19;
 
 // How many answers there were of each number, and how many of all were wrong.
-#[derive(Drop)]
+#[derive(Clone, Copy)]
 pub struct Tally {
     answers: [u64; NUMBERS],
     wrong: u64,

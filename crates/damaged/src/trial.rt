@@ -15,7 +15,7 @@ const SCOPE: u16 = 1;
 const PLACE: i64 = -3;
 
 // Whether what is damaged is a tape; the generator's number; what names mean; and the answers of each call so far.
-#[derive(Drop)]
+#[derive(Clone, Copy)]
 pub struct Trial {
     is_tape: bool,
     seed: u64,
