@@ -6,7 +6,7 @@ const NUMBERS: usize = 2000;
 const BYTES: usize = 65537;
 
 // How many numbers and bytes there are, of those for which there is room.
-#[derive(Drop)]
+#[derive(Clone, Copy)]
 pub struct Hand {
     numbers: [i64; NUMBERS],
     count: usize,

@@ -6,7 +6,7 @@ mod each;
 mod hand;
 mod show;
 
-use cases::Tape;
+use cases::{Asks, Tape};
 use console::Console;
 use hand::Hand;
 use std::io;
@@ -16,21 +16,23 @@ const CASES: usize = 65536;
 
 const TAPE: usize = 65537;
 
-// Changes what is handed in with a tape, or checks it.
-fn obey(rt: &impl Print, line: &[u8], tape: &[u8], hand: &mut Hand) -> io::Result<()> {
-    match script::command(line, b"bytes byte numbers filled number") {
-        0 => hand.set_bytes(line),
-        1 => hand.put_byte(line),
-        2 => hand.set_numbers(line),
-        3 => hand.fill_numbers(line),
-        4 => hand.put_number(line),
-        _ => return ask(rt, line, tape, hand),
+impl Asks for Hand {
+    // Changes what is handed in with a tape, or checks it.
+    fn ask(&mut self, rt: &impl Print, line: &[u8], tape: &[u8]) -> io::Result<()> {
+        match script::command(line, b"bytes byte numbers filled number") {
+            0 => self.set_bytes(line),
+            1 => self.put_byte(line),
+            2 => self.set_numbers(line),
+            3 => self.fill_numbers(line),
+            4 => self.put_number(line),
+            _ => return check(rt, line, tape, self),
+        }
+        Ok(())
     }
-    Ok(())
 }
 
 // Checks as a line says.
-fn ask(rt: &impl Print, line: &[u8], tape: &[u8], hand: &mut Hand) -> io::Result<()> {
+fn check(rt: &impl Print, line: &[u8], tape: &[u8], hand: &mut Hand) -> io::Result<()> {
     match script::command(line, b"check each built") {
         0 => show::check(rt, line, tape, hand),
         1 => each::check(rt, line, tape, hand),
@@ -40,11 +42,10 @@ fn ask(rt: &impl Print, line: &[u8], tape: &[u8], hand: &mut Hand) -> io::Result
 }
 
 fn main() {
-    let mut hand = Hand::new();
     let _ = cases::ask_each(
         &Console,
         &mut [0u8; CASES],
         &mut Tape::<TAPE>::new(),
-        |rt, line, tape| obey(rt, line, tape, &mut hand),
+        &mut Hand::new(),
     );
 }
