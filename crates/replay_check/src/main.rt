@@ -7,8 +7,8 @@
 #![tactic(auto)]
 
 use console::Console;
-use replay::Asked;
 use replay::room::Room;
+use replay::{Answers, Asked};
 use std::io;
 
 // How many bytes a question has.
@@ -74,17 +74,19 @@ fn check(rt: &impl Print, asked: Asked<'_>, held: &Held) -> io::Result<()> {
     }
 }
 
-// Answers a question.
-fn answer(rt: &impl Print, question: &[u8], held: &mut Held) -> io::Result<()> {
-    let asked = Asked::new(question);
-    if asked.operation <= BYTES {
-        keep(question, held);
-        return print!(rt; "done");
+impl Answers for Held {
+    // Answers a question.
+    fn answer(&mut self, rt: &impl Print, question: &[u8]) -> io::Result<()> {
+        let asked = Asked::new(question);
+        if asked.operation <= BYTES {
+            keep(question, self);
+            return print!(rt; "done");
+        }
+        check(rt, asked, self)?;
+        self.list.clear();
+        self.bytes.clear();
+        Ok(())
     }
-    check(rt, asked, held)?;
-    held.list.clear();
-    held.bytes.clear();
-    Ok(())
 }
 
 // Nothing is there at first.
@@ -94,9 +96,5 @@ fn main() {
         list: Room::new(0),
         bytes: Room::new(0),
     };
-    let _ = replay::answer_each(
-        &Console,
-        &mut [0u8; QUESTION],
-        |rt, question| answer(rt, question, &mut held),
-    );
+    let _ = replay::answer_each(&Console, &mut [0u8; QUESTION], &mut held);
 }
