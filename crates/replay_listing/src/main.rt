@@ -7,8 +7,8 @@
 ghost use Rattle.std.specs.Prelude.{◌≤◌, length};
 
 use console::Console;
-use replay::Asked;
 use replay::room::Room;
+use replay::{Answers, Asked};
 use std::io;
 
 // How many bytes a question has.
@@ -72,29 +72,33 @@ fn list(rt: &impl Print, tape: &[u8], initial: usize, text: &mut [u8]) -> io::Re
     }
 }
 
-// Answers a question.
-fn answer(
-    rt: &impl Print,
-    question: &[u8],
-    tape: &mut Room<u8, ROOM>,
-    text: &mut [u8],
-) -> io::Result<()> {
-    let asked = Asked::new(question);
-    if asked.operation == MORE {
-        tape.push_often(asked.piece(), asked.number);
-        return print!(rt; "done");
-    }
-    tape.push_all(asked.piece());
-    list(rt, tape.as_slice(), asked.number, text)?;
-    tape.clear();
-    Ok(())
+// The tape, and the text that is lent to one listing after the other, as each leaves it.
+#[derive(Drop)]
+struct Replay {
+    tape: Room<u8, ROOM>,
+    text: [u8; listing::TEXT],
 }
 
-// The tape begins with no bytes. The text is lent to one listing after the other, as each leaves it.
+impl Answers for Replay {
+    // Answers a question.
+    fn answer(&mut self, rt: &impl Print, question: &[u8]) -> io::Result<()> {
+        let asked = Asked::new(question);
+        if asked.operation == MORE {
+            self.tape.push_often(asked.piece(), asked.number);
+            return print!(rt; "done");
+        }
+        self.tape.push_all(asked.piece());
+        list(rt, self.tape.as_slice(), asked.number, &mut self.text)?;
+        self.tape.clear();
+        Ok(())
+    }
+}
+
+// The tape begins with no bytes.
 fn main() {
-    let mut tape = Room::<u8, ROOM>::new(0);
-    let mut text = [0u8; listing::TEXT];
-    let _ = replay::answer_each(&Console, &mut [0u8; QUESTION], |rt, question| {
-        answer(rt, question, &mut tape, &mut text)
-    });
+    let mut replay = Replay {
+        tape: Room::new(0),
+        text: [0; listing::TEXT],
+    };
+    let _ = replay::answer_each(&Console, &mut [0u8; QUESTION], &mut replay);
 }
