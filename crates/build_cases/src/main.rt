@@ -7,7 +7,7 @@
 mod memory;
 mod show;
 
-use cases::Tape;
+use cases::{Asks, Tape};
 use console::Console;
 use std::io;
 
@@ -16,15 +16,21 @@ const CASES: usize = 65536;
 
 const TAPE: usize = 65537;
 
-// Builds the tape as a line says.
-fn ask(rt: &impl Print, line: &[u8], tape: &[u8]) -> io::Result<()> {
-    match script::command(line, b"build left sized") {
-        0 => memory::build(rt, line, tape)?,
-        1 => memory::left(rt, line, tape)?,
-        2 => memory::sized(rt, line, tape)?,
-        _ => return cases::tell(rt, line),
+// Nothing is kept from line to line.
+#[derive(Drop)]
+struct Run;
+
+impl Asks for Run {
+    // Builds the tape as a line says.
+    fn ask(&mut self, rt: &impl Print, line: &[u8], tape: &[u8]) -> io::Result<()> {
+        match script::command(line, b"build left sized") {
+            0 => memory::build(rt, line, tape)?,
+            1 => memory::left(rt, line, tape)?,
+            2 => memory::sized(rt, line, tape)?,
+            _ => return cases::tell(rt, line),
+        }
+        println!(rt;)
     }
-    println!(rt;)
 }
 
 fn main() {
@@ -32,6 +38,6 @@ fn main() {
         &Console,
         &mut [0u8; CASES],
         &mut Tape::<TAPE>::new(),
-        |rt, line, tape| ask(rt, line, tape),
+        &mut Run,
     );
 }
