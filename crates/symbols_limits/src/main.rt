@@ -7,7 +7,7 @@ mod asks;
 mod show;
 mod tables;
 
-use cases::u16_of;
+use cases::{Obeys, u16_of};
 use console::Console;
 use std::io;
 use symbols::SymbolTable;
@@ -51,10 +51,24 @@ fn ask(rt: &impl Print, line: &[u8], table: SymbolTable, path: &[u16]) -> io::Re
     }
 }
 
+// The table and the path that are asked about.
+#[derive(Drop)]
+struct Run {
+    table: SymbolTable,
+    path: Path,
+}
+
+impl Obeys for Run {
+    // Does with them what a line says.
+    fn obey(&mut self, rt: &impl Print, line: &[u8]) -> io::Result<()> {
+        obey(rt, line, &mut self.table, &mut self.path)
+    }
+}
+
 fn main() {
-    let mut table = SymbolTable::new();
-    let mut path = Path::new(0);
-    let _ = cases::obey_each(&Console, &mut [0u8; CASES], |rt, line| {
-        obey(rt, line, &mut table, &mut path)
-    });
+    let mut run = Run {
+        table: SymbolTable::new(),
+        path: Path::new(0),
+    };
+    let _ = cases::obey_each(&Console, &mut [0u8; CASES], &mut run);
 }
