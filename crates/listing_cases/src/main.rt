@@ -6,7 +6,7 @@
 mod limits;
 mod show;
 
-use cases::Tape;
+use cases::{Asks, Tape};
 use console::Console;
 use std::io;
 
@@ -17,24 +17,32 @@ const TAPE: usize = 65537;
 
 const TEXT: usize = 1310741;
 
-// Lists the tape as a line says.
-fn ask(rt: &impl Print, line: &[u8], tape: &[u8], text: &mut [u8]) -> io::Result<()> {
-    match script::command(line, b"line lines sized left ends") {
-        0 => show::line(rt, line, tape, text),
-        1 => show::lines(rt, line, tape, text),
-        2 => limits::sized(rt, line, tape, text),
-        3 => limits::left(rt, line, tape, text),
-        4 => limits::ends(rt, line, tape, text),
-        _ => cases::tell(rt, line),
+// The text that is lent.
+#[derive(Drop)]
+struct Run {
+    text: [u8; TEXT],
+}
+
+impl Asks for Run {
+    // Lists the tape as a line says.
+    fn ask(&mut self, rt: &impl Print, line: &[u8], tape: &[u8]) -> io::Result<()> {
+        let text = &mut self.text;
+        match script::command(line, b"line lines sized left ends") {
+            0 => show::line(rt, line, tape, text),
+            1 => show::lines(rt, line, tape, text),
+            2 => limits::sized(rt, line, tape, text),
+            3 => limits::left(rt, line, tape, text),
+            4 => limits::ends(rt, line, tape, text),
+            _ => cases::tell(rt, line),
+        }
     }
 }
 
 fn main() {
-    let mut text = [0u8; TEXT];
     let _ = cases::ask_each(
         &Console,
         &mut [0u8; CASES],
         &mut Tape::<TAPE>::new(),
-        |rt, line, tape| ask(rt, line, tape, &mut text),
+        &mut Run { text: [0; TEXT] },
     );
 }
