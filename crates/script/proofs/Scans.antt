@@ -2,17 +2,16 @@
 use mathlib.Core.Bool.{Bool, true, false, cond, not}
 use mathlib.Core.List.{List, [], ◌∷◌}
 use mathlib.Core.Path.{◌≡◌, refl, sym, ap, ◌∙◌}
-use Prim.Native.Nat.{ℕ, zero, suc, ◌+◌, ◌-◌, ◌≤◌, ◌<◌}
+use Prim.Native.Nat.{ℕ, suc, ◌+◌, ◌-◌, ◌≤◌, ◌<◌}
 use native.Mathlib.Omega.{arith}
 use lib.Dec.{eqb, ltb}
-use lib.ListN.{length, get_or, take, drop, length-drop, drop_of_length-le}
+use lib.ListN.{length, take, drop, length-drop}
 use lib.Seq.{take_all}
-use borrow.Author.Tests.{ltb-false, eq-eqb, ne_eqb}
+use borrow.Author.Tests.{ltb-false}
 use Rattle.refusals.specs.Answer.{pick}
 use Rattle.std.specs.Prelude.{Some, None, position}
 use Rattle.std.specs.List.{position_or_len}
 use Rattle.refusals.proofs.Never.{never}
-use Rattle.page.proofs.Rests.{next_byte}
 use Rattle.script.specs.Parts.{until, behind, from}
 
 -- ---- a part of a text
@@ -66,38 +65,7 @@ module _ (mark : ℕ) where
     pub until_mark : {at : ℕ} → Some at ≡ position is_mark text → take at text ≡ until mark text
     until_mark h = ap (λ (n : ℕ). take n text) (some_before h) ∙ take_before text
 
-  -- ---- behind some of the marks
+  -- ---- behind some of the marks, behind the next one
 
-  -- a byte passed: one mark less, or as many
-  behind_byte : (c : ℕ) (cs : List ℕ) (n : ℕ) → 0 < n → from mark (n - pick (is_mark c) 1 0) cs ≡ from mark n (c ∷ cs)
-  behind_byte c cs zero h = absurd (omega arith)
-  behind_byte c cs (suc n) h = go (is_mark c)
-    where
-      go : (b : Bool) → from mark (suc n - pick b 1 0) cs ≡ from mark n (pick b cs (behind mark cs))
-      go true = let e : suc n - 1 ≡ n = omega arith in ap (λ (k : ℕ). from mark k cs) e
-      go false = let e : suc n - 0 ≡ suc n = omega arith in ap (λ (k : ℕ). from mark k cs) e
-
-  behind_nothing : (n : ℕ) → [] ≡ from mark n []
-  behind_nothing zero = refl
-  behind_nothing (suc n) = behind_nothing n
-
-  module _ (text : List ℕ) (i : ℕ) where
-    abbrev rest : List ℕ
-    rest = drop (i + 1) text
-
-    module _ (h : i < length text) (n : ℕ) (more : 0 < n) {m : ℕ} where
-      past_byte : {b : Bool} → is_mark (get_or text i 0) ≡ b → m ≡ n - pick b 1 0 → from mark m rest ≡ from mark n (drop i text)
-      past_byte is e =
-          ap (λ (k : ℕ). from mark k rest) e
-          ∙ ap (λ (b : Bool). from mark (n - pick b 1 0) rest) (sym is)
-          ∙ behind_byte _ rest n more
-          ∙ ap (from mark n) (sym (next_byte text i h))
-
-      pub past_mark : get_or text i 0 ≡ mark → m ≡ n - 1 → from mark m rest ≡ from mark n (drop i text)
-      past_mark is e = past_byte (eq-eqb _ _ is) e
-
-      pub past_other : (get_or text i 0 ≡ mark → ⊥) → m ≡ n → from mark m rest ≡ from mark n (drop i text)
-      past_other is e = let same : m ≡ n - 0 = omega (arith, e) in past_byte (ne_eqb _ _ is) same
-
-    pub past_end : length text ≤ i → (n : ℕ) → [] ≡ from mark n (drop i text)
-    past_end h n = behind_nothing n ∙ sym (ap (from mark n) (drop_of_length-le _ h))
+  pub next_mark : (text : List ℕ) (count i : ℕ) → i < count → from mark (count - i) text ≡ from mark (count - (i + 1)) (behind mark text)
+  next_mark text count i h = let e : count - i ≡ suc (count - (i + 1)) = omega arith in ap (λ (k : ℕ). from mark k text) e

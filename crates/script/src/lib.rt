@@ -2,7 +2,7 @@
 // what is not there is empty, or 0.
 #![tactic(auto)]
 
-ghost use Rattle.std.specs.Prelude.{◌≡◌, eqb, position};
+ghost use Rattle.std.specs.Prelude.{◌≡◌, ◌≤◌, eqb, position, length, drop};
 ghost use Rattle.script.specs.Parts.{until, from, starts};
 ghost use Rattle.script.specs.Words.{lines_in, line_of, words_in, word_of, words_from};
 ghost use Rattle.script.specs.Numbers.{with_digit, with_letter, number_in, number_of};
@@ -46,23 +46,28 @@ fn before(text: &[u8], mark: u8) -> &[u8]
     }
 }
 
+// The offset behind the first mark from an offset on; the end where there is none.
+fn next(text: &[u8], mark: u8, begin: usize) -> usize
+    requires { begin ≤ length text.now }
+    ensures { (result ≤ length text.now) × (drop result text.now ≡ from mark 1 (drop begin text.now)) }
+{
+    for at in begin..text.len() {
+        if text[at] == mark {
+            return at + 1;
+        }
+    }
+    text.len()
+}
+
 // What stands behind so many marks.
 fn behind(text: &[u8], mark: u8, count: usize) -> &[u8]
     ensures { result.now ≡ from mark count text.now }
 {
-    if count == 0 {
-        return text;
+    let mut at = 0;
+    for i in 0..count {
+        at = next(text, mark, at);
     }
-    let mut left = count;
-    for (at, byte) in text.iter().enumerate() {
-        if *byte == mark {
-            left -= 1;
-            if left == 0 {
-                return &text[at + 1..];
-            }
-        }
-    }
-    &[]
+    &text[at..]
 }
 
 // How many lines a text has.
